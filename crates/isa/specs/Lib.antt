@@ -1,0 +1,5 @@
+pub mod Codes
+pub mod Decode
+pub mod Encode
+pub mod Range
+pub mod Statements

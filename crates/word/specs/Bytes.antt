@@ -1,0 +1,50 @@
+-- Bytes, halves and words in memory, the highest byte first (the guide, "Layout of data in memory"); once over the number of bytes.
+-- Assumes nothing.
+use Prim.Native.Nat.{ℕ, zero, suc, _+_, _*_, _/_, _%_}
+use mathlib.Core.Bool.{Bool, false, cond, _||_}
+use mathlib.Core.List.{List}
+use lib.Dec.{ltb, leb}
+use lib.ListN.{length, getD, set}
+use Rattle.word.specs.declared.Width.{Width}
+
+abbrev pub bytesOf : Width → ℕ
+bytesOf Width.Byte = 1
+bytesOf Width.Half = 2
+bytesOf Width.Word = 4
+
+-- the n bytes at a lie inside m
+abbrev pub inside : List ℕ → ℕ → ℕ → Bool
+inside m a n = leb (a + n) (length m)
+
+-- the number that the n bytes at a make, the first the highest
+unfoldable pub load : ℕ → List ℕ → ℕ → ℕ
+load zero m a = 0
+load (suc n) m a = load n m a * 256 + getD m (a + n) 0
+
+-- m with the n bytes at a made the low n bytes of v, the last the lowest
+unfoldable pub store : ℕ → List ℕ → ℕ → ℕ → List ℕ
+store zero m a v = m
+store (suc n) m a v = store n (set m (a + n) (v % 256)) a (v / 256)
+
+-- m with the n bytes at a each made b
+unfoldable pub fill : ℕ → List ℕ → ℕ → ℕ → List ℕ
+fill zero m a b = m
+fill (suc n) m a b = set (fill n m a b) (a + n) b
+
+-- a byte that is not 0 among the n at a
+unfoldable pub any : ℕ → List ℕ → ℕ → Bool
+any zero m a = false
+any (suc n) m a = any n m a || ltb 0 (getD m (a + n) 0)
+
+-- The same by width, for every address: what does not lie inside reads as 0, and writing there changes nothing.
+abbrev pub loadOf : Width → List ℕ → ℕ → ℕ
+loadOf w m a = cond (inside m a (bytesOf w)) (load (bytesOf w) m a) 0
+
+abbrev pub storeOf : Width → List ℕ → ℕ → ℕ → List ℕ
+storeOf w m a v = cond (inside m a (bytesOf w)) (store (bytesOf w) m a v) m
+
+abbrev pub fillOf : Width → List ℕ → ℕ → ℕ → List ℕ
+fillOf w m a b = cond (inside m a (bytesOf w)) (fill (bytesOf w) m a b) m
+
+abbrev pub anyOf : Width → List ℕ → ℕ → Bool
+anyOf w m a = cond (inside m a (bytesOf w)) (any (bytesOf w) m a) false

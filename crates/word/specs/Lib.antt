@@ -1,0 +1,4 @@
+pub mod Bits
+pub mod Numbers
+pub mod Addresses
+pub mod Bytes

@@ -1,0 +1,375 @@
+//! One instruction on state and memory (document 01, "Instructions" and "Marks").
+//!
+//! Every stop is found before anything changes, so a stopping step changes nothing.
+
+use crate::isa::{data_address, decode, jump_target, needs_second};
+use crate::isa::{AluOp, CompareImmediateOp, CompareOp, ConditionalOp, Instr, MultShiftOp, When};
+use crate::reply::Reply;
+use crate::state::{hwdbg, psw, sfr, Register, State};
+use crate::word::{self, sign_extend, Width};
+
+/// What an instruction asks of the rest of its step.
+pub(crate) enum Effect {
+    Nothing,
+    /// It loaded or stored at this address, which the watchpoints are compared with.
+    Data(u32),
+    /// It is a swint with these four bits.
+    Swint(u32),
+    /// TIMER was written, which "takes the place of that step's fall".
+    TimerWritten,
+}
+
+/// Does the instruction at the program counter, or stops and changes nothing.
+#[inline]
+pub(crate) fn instruction(
+    state: &mut State,
+    memory: &mut [u8],
+    marks: &mut [u8],
+) -> Result<Effect, Reply> {
+    let instr = fetch(state.pc, memory, marks)?;
+    execute(instr, state, memory, marks)
+}
+
+/// The instruction at `pc`. "A program counter found odd inside a run answers 13, before all
+/// these."
+#[inline]
+fn fetch(pc: u32, memory: &[u8], marks: &[u8]) -> Result<Instr, Reply> {
+    if pc & 1 != 0 {
+        return Err(Reply::NoInstruction);
+    }
+    let first = fetch_half(pc, memory, marks)?;
+    // A half that needs a second one begins an instruction whatever that is, so stop 13 still
+    // comes before the stops of the second half.
+    let second =
+        if needs_second(first) { fetch_half(pc.wrapping_add(2), memory, marks)? } else { 0 };
+    decode(first, second).ok_or(Reply::NoInstruction)
+}
+
+/// Half an instruction.
+#[inline(always)]
+fn fetch_half(address: u32, memory: &[u8], marks: &[u8]) -> Result<u16, Reply> {
+    let half = word::load(memory, address, Width::Half).ok_or(Reply::FetchOutside)?;
+    if any_marked(marks, address, Width::Half) {
+        return Err(Reply::FetchMarked);
+    }
+    Ok(half as u16)
+}
+
+/// Whether any byte of an access is marked. Mark bytes are 0 or 1, one for each byte of memory.
+#[inline]
+fn any_marked(marks: &[u8], address: u32, width: Width) -> bool {
+    word::load(marks, address, width) != Some(0)
+}
+
+/// Does one instruction, or stops and changes nothing.
+#[inline]
+fn execute(
+    instr: Instr,
+    state: &mut State,
+    memory: &mut [u8],
+    marks: &mut [u8],
+) -> Result<Effect, Reply> {
+    let pc = state.pc;
+    let mut next = pc.wrapping_add(instr.size());
+    let mut effect = Effect::Nothing;
+    match instr {
+        Instr::Alu { op, rd, rb } => alu(state, op, rd, rb),
+        Instr::Andi { rd, uimm8 } => state.change(rd, |value| value & uimm8),
+        Instr::Addi { rd, simm8 } => state.change(rd, |value| value.wrapping_add(simm8)),
+        Instr::Movi { rd, simm8 } => state.set(rd, simm8, false),
+        Instr::MultShift { op, rd, rb } => {
+            state.combine(rd, rb, |d, b| mult_shift(op, d, b));
+        }
+        Instr::MultShiftImmediate { op, rd, uimm4 } => {
+            state.change(rd, |value| mult_shift(op, value, uimm4));
+        }
+        Instr::Compare { op, rd, rb } => {
+            let (d, b) = (state.register(rd), state.register(rb));
+            state.set_tf(compare(op, d.value, b.value), d.marked | b.marked);
+        }
+        Instr::CompareImmediate { op, rd, simm4 } => {
+            let d = state.register(rd);
+            state.set_tf(compare_immediate(op, d.value, simm4), d.marked);
+        }
+        Instr::Conditional { tf, op, rd, rb } => conditional(state, tf, op, rd, rb),
+        Instr::ConditionalAddImmediate { tf, rd, simm4 } => {
+            let d = state.register(rd);
+            let sum = Register { value: d.value.wrapping_add(simm4), marked: d.marked };
+            state.set_if(tf, rd, sum);
+        }
+        Instr::Load { width, rd, uimm4, rb } => {
+            let address = data_address(state.unmarked(rb)?, uimm4, width);
+            load(state, memory, marks, rd, address, width)?;
+            effect = Effect::Data(address);
+        }
+        Instr::Store { width, rd, uimm4, rb } => {
+            let address = data_address(state.unmarked(rb)?, uimm4, width);
+            store(state.register(rd), memory, marks, address, width)?;
+            effect = Effect::Data(address);
+        }
+        Instr::Ldrpc { rd, uimm8 } => {
+            let address = data_address(pc, uimm8, Width::Word);
+            load(state, memory, marks, rd, address, Width::Word)?;
+            effect = Effect::Data(address);
+        }
+        Instr::Mfsfr { rd, sfr } => {
+            let marked = sfr == sfr::PSW && state.flag_marked();
+            state.set(rd, state.sfr(sfr), marked);
+        }
+        Instr::Mtsfr { sfr, rb } => effect = write_sfr(state, sfr, state.unmarked(rb)?),
+        Instr::Swint { code } => effect = Effect::Swint(code),
+        Instr::Jr { rb } => next = register_target(state.unmarked(rb)?),
+        Instr::Jrl { rb } => {
+            next = register_target(state.unmarked(rb)?);
+            state.ra = pc.wrapping_add(4);
+        }
+        Instr::Jsfr { sfr } => next = jump_to_sfr(state, sfr)?,
+        Instr::ShortJump { when, displacement } | Instr::LongJump { when, displacement } => {
+            if taken(state, when)? {
+                next = jump_target(pc, displacement);
+            }
+        }
+        Instr::Jl { displacement } => {
+            next = jump_target(pc, displacement);
+            state.ra = pc.wrapping_add(4);
+        }
+    }
+    state.pc = next;
+    Ok(effect)
+}
+
+/// The twelve ALU instructions on two registers. Only the sums and differences touch PSW.
+#[inline]
+fn alu(state: &mut State, op: AluOp, rd: u32, rb: u32) {
+    let (d, b) = (state.register(rd), state.register(rb));
+    let either = d.marked | b.marked;
+    let with_cy = either | state.cy_marked;
+    match op {
+        AluOp::Sub => state.set_with_cy(rd, word::sub(d.value, b.value, false), either),
+        AluOp::Add => state.set_with_cy(rd, word::add(d.value, b.value, false), either),
+        AluOp::Subc => state.set_with_cy(rd, word::sub(d.value, b.value, state.cy()), with_cy),
+        AluOp::Addc => state.set_with_cy(rd, word::add(d.value, b.value, state.cy()), with_cy),
+        AluOp::Mov => state.set(rd, b.value, b.marked),
+        AluOp::And => state.set(rd, d.value & b.value, either),
+        AluOp::Or => state.set(rd, d.value | b.value, either),
+        // "xor of a register with itself stays marked."
+        AluOp::Xor => state.set(rd, d.value ^ b.value, either),
+        AluOp::Sxb => state.set(rd, sign_extend(b.value, 8), b.marked),
+        AluOp::Xhw => state.set(rd, b.value.rotate_left(16), b.marked),
+        AluOp::Sxh => state.set(rd, sign_extend(b.value, 16), b.marked),
+        AluOp::Zxh => state.set(rd, b.value & 0xffff, b.marked),
+    }
+}
+
+/// The multiply and the shifts.
+#[inline]
+fn mult_shift(op: MultShiftOp, x: u32, y: u32) -> u32 {
+    match op {
+        MultShiftOp::Lsl => word::lsl(x, y),
+        MultShiftOp::Lsr => word::lsr(x, y),
+        MultShiftOp::Asr => word::asr(x, y),
+        MultShiftOp::Mult => word::mult(x, y),
+    }
+}
+
+/// The compares of two registers.
+#[inline]
+fn compare(op: CompareOp, x: u32, y: u32) -> bool {
+    match op {
+        CompareOp::Eq => x == y,
+        CompareOp::Hs => x >= y,
+        CompareOp::Ls => x <= y,
+        CompareOp::Lt => word::less(x, y),
+        CompareOp::Gt => word::less(y, x),
+    }
+}
+
+/// The compares with SIMM4. Both are signed: Appendix B calls cmpgti's Rd unsigned, but the
+/// guide's table decides.
+#[inline]
+fn compare_immediate(op: CompareImmediateOp, x: u32, simm4: u32) -> bool {
+    match op {
+        CompareImmediateOp::Eq => x == simm4,
+        CompareImmediateOp::Lt => word::less(x, simm4),
+        CompareImmediateOp::Gt => word::less(simm4, x),
+    }
+}
+
+/// The conditional instructions on two registers.
+#[inline]
+fn conditional(state: &mut State, tf: bool, op: ConditionalOp, rd: u32, rb: u32) {
+    let (d, b) = (state.register(rd), state.register(rb));
+    let either = d.marked | b.marked;
+    let result = match op {
+        ConditionalOp::Mov => b,
+        ConditionalOp::Sub => Register { value: d.value.wrapping_sub(b.value), marked: either },
+        ConditionalOp::Add => Register { value: d.value.wrapping_add(b.value), marked: either },
+    };
+    state.set_if(tf, rd, result);
+}
+
+/// Loads Rd from an aligned address; marked if any byte loaded is.
+#[inline]
+fn load(
+    state: &mut State,
+    memory: &[u8],
+    marks: &[u8],
+    rd: u32,
+    address: u32,
+    width: Width,
+) -> Result<(), Reply> {
+    let value = word::load(memory, address, width).ok_or(Reply::DataOutside)?;
+    state.set(rd, value, any_marked(marks, address, width));
+    Ok(())
+}
+
+/// Stores at an aligned address. "A stored byte takes the register's mark, so an unmarked store
+/// clears one."
+#[inline]
+fn store(
+    register: Register,
+    memory: &mut [u8],
+    marks: &mut [u8],
+    address: u32,
+    width: Width,
+) -> Result<(), Reply> {
+    let mark_bytes = if register.marked { 0x0101_0101 } else { 0 };
+    let inside = word::store(memory, address, width, register.value)
+        && word::store(marks, address, width, mark_bytes);
+    inside.then_some(()).ok_or(Reply::DataOutside)
+}
+
+/// The bits that mtsfr psw keeps: 12, 14, 15 and 26 to 31.
+const PSW_KEPT: u32 = psw::TR | psw::BUS_ERRORS | psw::STATUS;
+
+/// mtsfr. "Writes take effect at once."
+#[inline]
+fn write_sfr(state: &mut State, number: u32, value: u32) -> Effect {
+    match number {
+        sfr::PSW => {
+            state.psw = state.psw & PSW_KEPT | value & !PSW_KEPT;
+            (state.tf_marked, state.cy_marked) = (false, false);
+        }
+        sfr::RA => state.ra = value,
+        sfr::IPC => state.ipc = value,
+        sfr::TIMER => return write_timer(state, value),
+        sfr::IBASE => state.ibase = value,
+        sfr::USREG => state.usreg = value,
+        sfr::HWDBG => {
+            state.hwdbg = state.hwdbg & !hwdbg::ENABLES | value & hwdbg::ENABLES;
+        }
+        sfr::BP0 => state.bp0 = value,
+        sfr::BP1 => state.bp1 = value,
+        sfr::WP0 => state.wp0 = value,
+        sfr::WP1 => state.wp1 = value,
+        _ => panic!("SFR 11 and above are none"),
+    }
+    Effect::Nothing
+}
+
+/// "Writing TIMER is ignored if IP is 1 and TI is 0; an accepted write clears pending and takes
+/// the place of that step's fall."
+#[inline]
+fn write_timer(state: &mut State, value: u32) -> Effect {
+    if state.psw & (psw::IP | psw::TI) == psw::IP {
+        return Effect::Nothing;
+    }
+    state.timer = value;
+    state.pending = false;
+    Effect::TimerWritten
+}
+
+/// jsfr: its target. "On jsfr of IPC, IP becomes 0", by Appendix B; the guide's interrupt chapter
+/// would bring BIP back.
+#[inline]
+fn jump_to_sfr(state: &mut State, number: u32) -> Result<u32, Reply> {
+    if number == sfr::PSW && state.flag_marked() {
+        return Err(Reply::OperandMarked);
+    }
+    if number == sfr::IPC {
+        state.psw &= !psw::IP;
+    }
+    Ok(register_target(state.sfr(number)))
+}
+
+/// "Register jumps, jsfr among them, drop bit 0."
+#[inline]
+const fn register_target(value: u32) -> u32 {
+    value & !1
+}
+
+/// Whether a relative jump is taken; a conditional one stops if TF is marked.
+#[inline]
+fn taken(state: &State, when: When) -> Result<bool, Reply> {
+    match when {
+        When::Always => Ok(true),
+        _ if state.tf_marked => Err(Reply::OperandMarked),
+        When::False => Ok(!state.tf()),
+        When::True => Ok(state.tf()),
+    }
+}
+
+/// Registers and flags as the instructions read and write them.
+impl State {
+    #[inline]
+    fn register(&self, number: u32) -> Register {
+        self.registers[number as usize]
+    }
+
+    #[inline]
+    fn set(&mut self, number: u32, value: u32, marked: bool) {
+        self.registers[number as usize] = Register { value, marked };
+    }
+
+    /// The value of a register that must not be marked, else stop 14.
+    #[inline]
+    fn unmarked(&self, number: u32) -> Result<u32, Reply> {
+        let register = self.register(number);
+        if register.marked {
+            return Err(Reply::OperandMarked);
+        }
+        Ok(register.value)
+    }
+
+    /// Rd from Rd alone: an immediate is unmarked.
+    #[inline]
+    fn change(&mut self, rd: u32, operation: impl FnOnce(u32) -> u32) {
+        let register = self.register(rd);
+        self.set(rd, operation(register.value), register.marked);
+    }
+
+    /// Rd from Rd and Rb.
+    #[inline]
+    fn combine(&mut self, rd: u32, rb: u32, operation: impl FnOnce(u32, u32) -> u32) {
+        let (d, b) = (self.register(rd), self.register(rb));
+        self.set(rd, operation(d.value, b.value), d.marked | b.marked);
+    }
+
+    /// Rd and CY of a sum or difference.
+    #[inline]
+    fn set_with_cy(&mut self, rd: u32, (value, cy): (u32, bool), marked: bool) {
+        self.set(rd, value, marked);
+        self.psw = self.psw & !psw::CY | if cy { psw::CY } else { 0 };
+        self.cy_marked = marked;
+    }
+
+    #[inline]
+    fn set_tf(&mut self, tf: bool, marked: bool) {
+        self.psw = self.psw & !psw::TF | if tf { psw::TF } else { 0 };
+        self.tf_marked = marked;
+    }
+
+    /// Rd of a conditional instruction, which is done if TF is `tf`. "Under a marked TF \[it\]
+    /// marks Rd; under an unmarked TF that says no, Rd keeps value and mark."
+    #[inline]
+    fn set_if(&mut self, tf: bool, rd: u32, result: Register) {
+        let chosen = if self.tf() == tf { result } else { self.register(rd) };
+        self.set(rd, chosen.value, chosen.marked | self.tf_marked);
+    }
+
+    /// Whether TF or CY is marked.
+    #[inline]
+    const fn flag_marked(&self) -> bool {
+        self.tf_marked | self.cy_marked
+    }
+}

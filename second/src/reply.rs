@@ -1,0 +1,58 @@
+//! Replies of a run (document 01).
+
+/// A reply. Its number is document 01's.
+#[derive(Clone, Copy, Debug, PartialEq, Eq, Hash)]
+pub enum Reply {
+    /// Memory length is 0, above 65,536, or no multiple of 4.
+    MemoryLength = 1,
+    /// Mark slice of another length.
+    MarkLength = 2,
+    /// A mark byte above 1.
+    MarkByte = 3,
+    /// State out of form.
+    StateForm = 4,
+    /// Tape shorter than the budget.
+    TapeLength = 5,
+    /// A byte above 63 among the first "budget" tape bytes.
+    TapeByte = 6,
+    /// Budget used up.
+    BudgetUsed = 10,
+    /// Instruction fetch outside memory.
+    FetchOutside = 11,
+    /// Instruction fetch from a marked byte.
+    FetchMarked = 12,
+    /// Bits that are no instruction.
+    NoInstruction = 13,
+    /// A marked operand where none may be.
+    OperandMarked = 14,
+    /// Load or store outside memory.
+    DataOutside = 15,
+}
+
+impl Reply {
+    /// Every reply, in the order of the numbers.
+    pub const ALL: [Reply; 12] = [
+        Reply::MemoryLength,
+        Reply::MarkLength,
+        Reply::MarkByte,
+        Reply::StateForm,
+        Reply::TapeLength,
+        Reply::TapeByte,
+        Reply::BudgetUsed,
+        Reply::FetchOutside,
+        Reply::FetchMarked,
+        Reply::NoInstruction,
+        Reply::OperandMarked,
+        Reply::DataOutside,
+    ];
+
+    /// Document 01's number.
+    pub const fn number(self) -> u32 {
+        self as u32
+    }
+
+    /// Whether it is one of refusals 1 to 6, which are given before any step.
+    pub const fn is_refusal(self) -> bool {
+        self.number() < Reply::BudgetUsed.number()
+    }
+}

@@ -1,0 +1,85 @@
+//! A run under a budget (document 01, "Replies of a run").
+
+use crate::reply::Reply;
+use crate::state::State;
+use crate::step::{step, Step};
+
+/// The greatest length of memory.
+const LONGEST_MEMORY: usize = 65_536;
+
+/// The greatest tape byte: six lines.
+const HIGHEST_TAPE_BYTE: u8 = 63;
+
+/// What a run returns beside what it changes.
+#[derive(Clone, Copy, Debug, PartialEq, Eq, Hash)]
+pub struct Outcome {
+    pub reply: Reply,
+    /// The number of completed steps.
+    pub steps: u64,
+}
+
+/// Runs over the lent memory and marks, at most `budget` steps, one tape byte for each.
+pub fn run(
+    state: &mut State,
+    memory: &mut [u8],
+    marks: &mut [u8],
+    tape: &[u8],
+    budget: u64,
+) -> Outcome {
+    run_observed(state, memory, marks, tape, budget, |_| ())
+}
+
+/// As `run`, and shows each completed step.
+pub fn run_observed(
+    state: &mut State,
+    memory: &mut [u8],
+    marks: &mut [u8],
+    tape: &[u8],
+    budget: u64,
+    mut observe: impl FnMut(Step),
+) -> Outcome {
+    let tape = match accepted_tape(state, memory, marks, tape, budget) {
+        Ok(tape) => tape,
+        Err(reply) => return Outcome { reply, steps: 0 },
+    };
+    for (steps, &lines) in tape.iter().enumerate() {
+        match step(state, memory, marks, lines) {
+            Ok(step) => observe(step),
+            Err(reply) => return Outcome { reply, steps: steps as u64 },
+        }
+    }
+    Outcome { reply: Reply::BudgetUsed, steps: budget }
+}
+
+/// The first `budget` bytes of the tape, or the first refusal.
+fn accepted_tape<'t>(
+    state: &State,
+    memory: &[u8],
+    marks: &[u8],
+    tape: &'t [u8],
+    budget: u64,
+) -> Result<&'t [u8], Reply> {
+    if memory.is_empty() || memory.len() > LONGEST_MEMORY || !memory.len().is_multiple_of(4) {
+        return Err(Reply::MemoryLength);
+    }
+    if marks.len() != memory.len() {
+        return Err(Reply::MarkLength);
+    }
+    if highest(marks) > 1 {
+        return Err(Reply::MarkByte);
+    }
+    if !state.in_form() {
+        return Err(Reply::StateForm);
+    }
+    let within_budget = usize::try_from(budget).ok().and_then(|budget| tape.get(..budget));
+    let tape = within_budget.ok_or(Reply::TapeLength)?;
+    if highest(tape) > HIGHEST_TAPE_BYTE {
+        return Err(Reply::TapeByte);
+    }
+    Ok(tape)
+}
+
+/// The highest byte, 0 if there is none.
+fn highest(bytes: &[u8]) -> u8 {
+    bytes.iter().copied().fold(0, u8::max)
+}

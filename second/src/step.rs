@@ -1,0 +1,172 @@
+//! One step (document 01): an interrupt, else a breakpoint, else one instruction with its
+//! watchpoint; then the timer's fall.
+
+use crate::execute::{instruction, Effect};
+use crate::reply::Reply;
+use crate::state::{hwdbg, psw, State};
+
+/// The kind of an entry.
+#[derive(Clone, Copy, Debug, PartialEq, Eq, Hash)]
+pub enum Entry {
+    Swint,
+    Debug,
+    Timer,
+    External,
+}
+
+impl Entry {
+    /// The low 8 bits of the program counter after the entry.
+    const fn vector(self) -> u32 {
+        match self {
+            Entry::Swint | Entry::Debug => 4,
+            Entry::Timer => 8,
+            Entry::External => 12,
+        }
+    }
+}
+
+/// What a completed step did, beside its changes.
+#[derive(Clone, Copy, Debug, PartialEq, Eq, Hash)]
+pub struct Step {
+    /// The program counter before the step.
+    pub pc: u32,
+    /// The entry that was made.
+    pub entry: Option<Entry>,
+    /// The address, after alignment, of a load or store.
+    pub address: Option<u32>,
+}
+
+/// Makes one step with these lines, bit i for line i, or stops and changes nothing.
+///
+/// State, memory and marks are such as `run` doesn't refuse.
+#[inline]
+pub fn step(
+    state: &mut State,
+    memory: &mut [u8],
+    marks: &mut [u8],
+    lines: u8,
+) -> Result<Step, Reply> {
+    let (pc, psw) = (state.pc, state.psw);
+    let mut step = Step { pc, entry: None, address: None };
+    let mut timer_written = false;
+    if let Some(interrupt) = permitted_interrupt(state, lines) {
+        step.entry = Some(enter_interrupt(state, interrupt));
+    } else if breakpoint_hit(state) {
+        step.entry = Some(enter_debug(state, hwdbg::BP_HIT));
+    } else {
+        match instruction(state, memory, marks)? {
+            Effect::Nothing => {}
+            Effect::Data(address) => {
+                step.address = Some(address);
+                step.entry = watch(state, address);
+            }
+            Effect::Swint(code) => step.entry = Some(enter_swint(state, code)),
+            Effect::TimerWritten => timer_written = true,
+        }
+    }
+    if psw & psw::TE != 0 && !timer_written {
+        fall(state);
+    }
+    Ok(step)
+}
+
+/// An interrupt that isn't asked for by an instruction.
+enum Interrupt {
+    Timer,
+    /// An external one, with its line.
+    Line(u32),
+}
+
+/// The six lines of a tape byte.
+const SIX_LINES: u32 = 0x3f;
+
+/// The interrupt that IE and IP permit: "a pending timer with TE (bit 4) set ...; otherwise the
+/// lowest line i that is high and has enable bit 20+i set".
+#[inline]
+fn permitted_interrupt(state: &State, lines: u8) -> Option<Interrupt> {
+    if state.psw & (psw::IE | psw::IP) != psw::IE {
+        return None;
+    }
+    if state.pending && state.psw & psw::TE != 0 {
+        return Some(Interrupt::Timer);
+    }
+    let high_and_enabled = u32::from(lines) & state.psw >> psw::ENABLE_SHIFT & SIX_LINES;
+    (high_and_enabled != 0).then(|| Interrupt::Line(high_and_enabled.trailing_zeros()))
+}
+
+/// Whether an enabled breakpoint equals the program counter. Mostly none is enabled.
+#[inline]
+fn breakpoint_hit(state: &State) -> bool {
+    let enabled = |bit| state.hwdbg & bit != 0;
+    enabled(hwdbg::BP0 | hwdbg::BP1)
+        && (enabled(hwdbg::BP0) && state.bp0 == state.pc
+            || enabled(hwdbg::BP1) && state.bp1 == state.pc)
+}
+
+/// Debug entry after a load or store, if an enabled watchpoint equals its aligned address. If
+/// both do, both hits are shown.
+#[inline]
+fn watch(state: &mut State, address: u32) -> Option<Entry> {
+    let mut hits = 0;
+    if state.hwdbg & hwdbg::WP0 != 0 && state.wp0 == address {
+        hits |= hwdbg::WP0_HIT;
+    }
+    if state.hwdbg & hwdbg::WP1 != 0 && state.wp1 == address {
+        hits |= hwdbg::WP1_HIT;
+    }
+    (hits != 0).then(|| enter_debug(state, hits))
+}
+
+/// What all entries have in common. The program counter is that of the instruction not yet done.
+fn enter(state: &mut State, entry: Entry) -> Entry {
+    state.ipc = state.pc;
+    let bip = if state.psw & psw::IP != 0 { psw::BIP } else { 0 };
+    state.psw = state.psw & !psw::BIP | bip | psw::IP;
+    state.pc = state.ibase & !0xff | entry.vector();
+    entry
+}
+
+/// "Timer entry sets TI (bit 2) and clears pending. External sets EI (bit 1) and makes bits 26 to
+/// 31 show only the line taken."
+#[cold]
+fn enter_interrupt(state: &mut State, interrupt: Interrupt) -> Entry {
+    match interrupt {
+        Interrupt::Timer => {
+            state.psw |= psw::TI;
+            state.pending = false;
+            enter(state, Entry::Timer)
+        }
+        Interrupt::Line(line) => {
+            let status = 1 << (psw::STATUS_SHIFT + line);
+            state.psw = state.psw & !psw::STATUS | status | psw::EI;
+            enter(state, Entry::External)
+        }
+    }
+}
+
+/// "swint sets SW (bit 0) and puts its 4 bits in PSW 19:16."
+#[cold]
+fn enter_swint(state: &mut State, code: u32) -> Entry {
+    state.psw = state.psw & !psw::SWI | code << psw::SWI_SHIFT | psw::SW;
+    enter(state, Entry::Swint)
+}
+
+/// "Debug entry clears SW, sets PSW 19:16 to ones, and makes HWDBG bits 6 to 8 (BP, WP0, WP1) show
+/// exactly this hit." The guide's 23:16 gives way: 23:20 are line enables.
+#[cold]
+fn enter_debug(state: &mut State, hits: u32) -> Entry {
+    state.psw = state.psw & !psw::SW | psw::SWI;
+    state.hwdbg = state.hwdbg & !hwdbg::HITS | hits;
+    enter(state, Entry::Debug)
+}
+
+/// "If ... TIMER isn't 0, TIMER falls by 1; reaching 0 sets pending. ... Zero stays zero."
+#[inline]
+fn fall(state: &mut State) {
+    if state.timer != 0 {
+        state.timer -= 1;
+        if state.timer == 0 {
+            state.pending = true;
+        }
+    }
+}

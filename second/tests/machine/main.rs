@@ -1,0 +1,16 @@
+//! The machine against document 01, one module for each of its headings.
+
+#[path = "../generator/cases.rs"]
+mod cases;
+mod edges;
+#[path = "../generator/mod.rs"]
+mod generator;
+mod instructions;
+mod marks;
+mod one_step;
+mod properties;
+mod replies;
+mod rig;
+mod state;
+mod timer;
+mod trace;
