@@ -30,22 +30,6 @@ pub enum Reply {
 }
 
 impl Reply {
-    /// Every reply, in the order of the numbers.
-    pub const ALL: [Reply; 12] = [
-        Reply::MemoryLength,
-        Reply::MarkLength,
-        Reply::MarkByte,
-        Reply::StateForm,
-        Reply::TapeLength,
-        Reply::TapeByte,
-        Reply::BudgetUsed,
-        Reply::FetchOutside,
-        Reply::FetchMarked,
-        Reply::NoInstruction,
-        Reply::OperandMarked,
-        Reply::DataOutside,
-    ];
-
     /// Document 01's number.
     pub const fn number(self) -> u32 {
         self as u32

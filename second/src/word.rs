@@ -109,12 +109,18 @@ pub const fn align(address: u32, width: Width) -> u32 {
 /// The number at `address`, zero-extended; none if any of its bytes is outside `memory`.
 #[inline]
 pub fn load(memory: &[u8], address: u32, width: Width) -> Option<u32> {
-    let from = memory.get(usize::try_from(address).ok()?..)?;
     match width {
-        Width::Byte => from.first().map(|&byte| u32::from(byte)),
-        Width::Half => from.first_chunk().map(|&half| u16::from_be_bytes(half).into()),
-        Width::Word => from.first_chunk().map(|&word| u32::from_be_bytes(word)),
+        Width::Byte => bytes(memory, address).map(|[byte]| byte.into()),
+        Width::Half => bytes(memory, address).map(|half| u16::from_be_bytes(half).into()),
+        Width::Word => bytes(memory, address).map(u32::from_be_bytes),
     }
+}
+
+/// The `N` bytes from `address` on, if all are inside `memory`.
+#[inline]
+fn bytes<const N: usize>(memory: &[u8], address: u32) -> Option<[u8; N]> {
+    let start = usize::try_from(address).ok()?;
+    memory.get(start..start.checked_add(N)?)?.first_chunk().copied()
 }
 
 /// Stores the low bytes of `value` at `address`. If any of their places is outside `memory`, the
@@ -122,13 +128,18 @@ pub fn load(memory: &[u8], address: u32, width: Width) -> Option<u32> {
 #[inline]
 #[must_use]
 pub fn store(memory: &mut [u8], address: u32, width: Width, value: u32) -> bool {
-    let Some(from) = usize::try_from(address).ok().and_then(|start| memory.get_mut(start..)) else {
-        return false;
-    };
-    let stored = match width {
-        Width::Byte => from.first_mut().map(|place| *place = value as u8),
-        Width::Half => from.first_chunk_mut().map(|place| *place = (value as u16).to_be_bytes()),
-        Width::Word => from.first_chunk_mut().map(|place| *place = value.to_be_bytes()),
-    };
-    stored.is_some()
+    match width {
+        Width::Byte => put(memory, address, [value as u8]),
+        Width::Half => put(memory, address, (value as u16).to_be_bytes()),
+        Width::Word => put(memory, address, value.to_be_bytes()),
+    }
+    .is_some()
+}
+
+/// Puts bytes from `address` on, if all places are inside `memory`.
+#[inline]
+fn put<const N: usize>(memory: &mut [u8], address: u32, bytes: [u8; N]) -> Option<()> {
+    let start = usize::try_from(address).ok()?;
+    *memory.get_mut(start..start.checked_add(N)?)?.first_chunk_mut()? = bytes;
+    Some(())
 }

@@ -1,3 +1,4 @@
 pub mod Fields
 pub mod Numbers
 pub mod Memory
+pub mod Determined

@@ -75,6 +75,38 @@ fn a_movi_at_the_end_completes_and_the_next_step_may_be_an_entry() {
     assert_eq!((rig.state.pc, rig.state.ipc), (12, LENGTH));
 }
 
+/// The same edges in the shortest and the longest memory.
+#[test]
+fn the_edges_are_where_the_memory_ends() {
+    for length in [4, 8, 65_532, 65_536_u32] {
+        let mut rig = Rig::with(&[]);
+        rig.memory = vec![0x11; length as usize];
+        rig.marks = vec![0; length as usize];
+        rig.place(length - 2, &[0xa035]); // ldrh r3 from r5, its own last two bytes
+        rig.state.pc = length - 2;
+        rig.set(5, length - 1);
+        let after = rig.assert_step(|after| {
+            after.state.pc = length;
+            after.set(3, 0xa035);
+        });
+        after.assert_stops(11);
+        rig.place(length - 2, &[0x8035]); // ldr r3 from r5
+        rig.assert_step(|after| {
+            after.state.pc = length;
+            after.set(3, 0x1111_8035);
+        });
+        rig.set(5, length);
+        rig.assert_stops(15);
+    }
+}
+
+#[test]
+fn a_jump_below_address_0_wraps_and_the_next_step_gives_11() {
+    let rig = Rig::busy(&[0xf7ff]); // sj, -2
+    let after = rig.assert_step(|after| after.state.pc = 0xffff_fffe);
+    after.assert_stops(11);
+}
+
 #[test]
 fn line_5_alone_high_with_bit_25_clear_is_not_taken() {
     let mut rig = Rig::with(&[0x7110]);

@@ -47,10 +47,24 @@ impl Input {
 
 #[test]
 fn the_numbers_are_those_of_the_table() {
-    let numbers = Reply::ALL.map(Reply::number);
-    assert_eq!(numbers, [1, 2, 3, 4, 5, 6, 10, 11, 12, 13, 14, 15]);
-    let refusals = Reply::ALL.map(Reply::is_refusal);
-    assert_eq!(refusals, numbers.map(|number| number <= 6));
+    let table = [
+        (1, Reply::MemoryLength),
+        (2, Reply::MarkLength),
+        (3, Reply::MarkByte),
+        (4, Reply::StateForm),
+        (5, Reply::TapeLength),
+        (6, Reply::TapeByte),
+        (10, Reply::BudgetUsed),
+        (11, Reply::FetchOutside),
+        (12, Reply::FetchMarked),
+        (13, Reply::NoInstruction),
+        (14, Reply::OperandMarked),
+        (15, Reply::DataOutside),
+    ];
+    for (number, reply) in table {
+        assert_eq!(reply.number(), number);
+        assert_eq!(reply.is_refusal(), number <= 6);
+    }
 }
 
 #[test]
