@@ -15,7 +15,7 @@ pub(crate) enum Effect {
     Data(u32),
     /// It is a swint with these four bits.
     Swint(u32),
-    /// TIMER was written, which "takes the place of that step's fall".
+    /// It wrote TIMER, and the write was accepted.
     TimerWritten,
 }
 

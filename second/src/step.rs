@@ -46,9 +46,8 @@ pub fn step(
     marks: &mut [u8],
     lines: u8,
 ) -> Result<Step, Reply> {
-    let (pc, psw) = (state.pc, state.psw);
-    let mut step = Step { pc, entry: None, address: None };
-    let mut timer_written = false;
+    let te_at_its_start = state.psw & psw::TE != 0;
+    let mut step = Step { pc: state.pc, entry: None, address: None };
     if let Some(interrupt) = permitted_interrupt(state, lines) {
         step.entry = Some(enter_interrupt(state, interrupt));
     } else if breakpoint_hit(state) {
@@ -61,10 +60,11 @@ pub fn step(
                 step.entry = watch(state, address);
             }
             Effect::Swint(code) => step.entry = Some(enter_swint(state, code)),
-            Effect::TimerWritten => timer_written = true,
+            // "takes the place of that step's fall"
+            Effect::TimerWritten => return Ok(step),
         }
     }
-    if psw & psw::TE != 0 && !timer_written {
+    if te_at_its_start {
         fall(state);
     }
     Ok(step)

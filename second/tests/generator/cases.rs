@@ -3,6 +3,7 @@
 
 use second::isa::{encode, mnemonics, Halves, Instr};
 use second::state::{Register, State};
+use second::word::sign_extend;
 
 use crate::generator::Generator;
 
@@ -74,9 +75,7 @@ impl Generator {
     fn instruction(&mut self, mnemonics: &[Instr]) -> Instr {
         let instr = self.pick(mnemonics);
         let four = |generator: &mut Generator| generator.below(16);
-        let signed = |generator: &mut Generator, bits: u32| {
-            (generator.word() << (32 - bits)).cast_signed().wrapping_shr(32 - bits).cast_unsigned()
-        };
+        let signed = |generator: &mut Generator, bits| sign_extend(generator.word(), bits);
         let operands = match instr {
             Instr::Andi { .. } => [four(self), self.below(256), 0],
             Instr::Ldrpc { .. } => [four(self), self.pick(&[0, 1, 2, 5, 9, 30, 255]), 0],

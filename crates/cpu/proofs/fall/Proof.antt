@@ -1,0 +1,31 @@
+use borrow.Author.Tests.{lt-ltb, le-ltb}
+use Rattle.cpu.specs.Entries.{fallen}
+use borrow.Author.Needs.{needs}
+use Rattle.cpu.proofs.fall.Statement.{statement}
+use Rattle.cpu.proofs.fall.Tie as tie
+
+sub-with-timer : tie.Need-sub-with-timer
+sub-with-timer c = search needs
+
+either-requires : tie.Need-either-requires
+either-requires c κs = search needs
+
+with-timer-requires : tie.Need-with-timer-requires
+with-timer-requires c κs = search needs
+
+returns : tie.Need-returns
+unfolding fallen
+returns c = rw (c .with-timer .ensures, c .before .either .ensures, lt-ltb _ _ (c .before .before .if2 .taken), c .before .before .before .if1 .taken)
+
+returns-2 : tie.Need-returns-2
+unfolding fallen
+returns-2 c = rw (le-ltb _ _ (c .if2 .left), c .before .if1 .taken)
+
+returns-3 : tie.Need-returns-3
+unfolding fallen
+returns-3 c = rw (c .if1 .left)
+
+pub fall-spec : {M : Type 1} → statement M
+fall-spec =
+    tie.close
+    (tie.spec sub-with-timer either-requires with-timer-requires returns returns-2 returns-3)

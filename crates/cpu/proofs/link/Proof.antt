@@ -1,0 +1,17 @@
+use Rattle.cpu.specs.Exec.{linked}
+use borrow.Author.Needs.{needs}
+use Rattle.cpu.proofs.link.Statement.{statement}
+use Rattle.cpu.proofs.link.Tie as tie
+
+wrapping-add-u32-requires : tie.Need-wrapping-add-u32-requires
+wrapping-add-u32-requires c κs = search needs
+
+with-ra-requires : tie.Need-with-ra-requires
+with-ra-requires c κs = search needs
+
+returns : tie.Need-returns
+unfolding linked
+returns c = rw (c .with-ra .ensures, c .before .wrapping-add-u32 .ensures)
+
+pub link-spec : {M : Type 1} → statement M
+link-spec = tie.close (tie.spec wrapping-add-u32-requires with-ra-requires returns)

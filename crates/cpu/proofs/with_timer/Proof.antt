@@ -1,0 +1,11 @@
+use mathlib.Core.Path.{refl}
+use Rattle.cpu.specs.Control.{withTimer}
+use Rattle.cpu.proofs.with_timer.Statement.{statement}
+use Rattle.cpu.proofs.with_timer.Tie as tie
+
+returns : tie.Need-returns
+unfolding withTimer
+returns c = refl
+
+pub with-timer-spec : {M : Type 1} → statement M
+with-timer-spec = tie.close (tie.spec returns)

@@ -1,0 +1,134 @@
+-- Small laws that the functions' proofs cite.
+-- Assumes nothing.
+use Prim.Native.Nat.{ℕ, suc, _+_, _*_, _-_, _/_, _%_, _^_, _<_, _≤_}
+use mathlib.Core.Path.{_≡_, refl, sym, ap, subst, _∙_}
+use mathlib.Core.Bool.{Bool, true, false, cond, not, _&&_}
+use mathlib.Core.List.{List}
+use native.Mathlib.Omega.{arith}
+use lib.Dec.{ltb, eqb}
+use lib.ListN.{length, getD, take}
+use borrow.Author.Tests.{eqb-true, ltb-false}
+use Rattle.word.specs.Bits.{on, fieldOf}
+use Rattle.word.specs.Bytes.{inside, load, loadOf}
+use Rattle.word.specs.declared.Width.{Width}
+use Rattle.word.proofs.Memory.{load-none, load-more, byte-more}
+use Rattle.isa.proofs.Rows.{and-left, and-right}
+use Rattle.cpu.specs.Entries.{isBreak}
+use Rattle.cpu.specs.declared.Control.{Control}
+use Rattle.marks.specs.Memory.{anyAbove, badMark}
+use Rattle.machine.specs.State.{outOfForm}
+use Rattle.machine.specs.Step.{lowest, chosen, turnOf, after}
+use Rattle.machine.specs.Run.{final, goOn, stepsOf, judge, badLength}
+use Rattle.machine.specs.declared.State.{State}
+use Rattle.machine.specs.declared.Reply.{Reply}
+use Rattle.machine.specs.declared.Judged.{Judged}
+use Rattle.machine.specs.declared.Done.{Done}
+use Rattle.machine.specs.declared.Out.{Out}
+use Rattle.machine.specs.declared.Event.{Event}
+
+-- a half is below 65,536, since each byte is below 256
+pub half-lt : (m : List ℕ) (a : ℕ) → ((i : ℕ) → getD m i 0 < 256) → loadOf Width.Half m a < 65536
+half-lt m a h = go (inside m a 2)
+  where
+    two : load (0 + 1 + 1) m a < 2 ^ (8 * (0 + 1 + 1))
+    two =
+        subst (λ (n : ℕ). n < 2 ^ (8 * (0 + 1 + 1))) (sym (load-more 1 m a))
+        (byte-more 1 (load 1 m a) _
+        (subst (λ (n : ℕ). n < 2 ^ (8 * 1)) (sym (load-more 0 m a ∙ ap (λ (n : ℕ). n * 256 + getD m (a + 0) 0) (load-none m a))) (omega (arith, h (a + 0))))
+        (h (a + 1)))
+
+    go : (t : Bool) → cond t (load 2 m a) 0 < 65536
+    go true = two
+    go false = omega arith
+
+-- one more line looked at, and none left
+pub lowest-more : (i t p : ℕ) → i < 6 → lowest (6 - i) i t p ≡ cond (on t i && on p (20 + i)) i (lowest (6 - (i + 1)) (i + 1) t p)
+unfolding lowest
+lowest-more i t p h =
+    let e : 6 - i ≡ suc (6 - (i + 1)) = omega arith in
+    rw e
+
+pub lowest-none : (i t p : ℕ) → 6 ≤ i → i ≤ 6 → lowest (6 - i) i t p ≡ i
+unfolding lowest
+lowest-none i t p h l =
+    let e : 6 - i ≡ 0 = omega arith in
+    rw e
+
+broken : (c : Control) → on (c .hwdbg) 2 ≡ false → on (c .hwdbg) 3 ≡ false → isBreak c ≡ false
+unfolding isBreak
+broken c a b = rw (a, b)
+
+quiet : (t : ℕ) (c : Control) → c .pending ≡ false → t ≡ 0 → isBreak c ≡ false → chosen t c ≡ Event.Instruction
+unfolding chosen lowest isBreak
+quiet t c p e b = rw (e, p, b) (go (on (c .psw) 5 && not (on (c .psw) 3)))
+  where
+    go : (u : Bool) → cond u Event.Instruction Event.Instruction ≡ Event.Instruction
+    go true = refl
+    go false = refl
+
+-- no line high, no timer pending and no breakpoint enabled: an instruction
+pub calm : (t : ℕ) (c : Control) → c .pending ≡ false → (eqb t 0 && eqb (fieldOf (c .hwdbg) 2 2) 0) ≡ true → chosen t c ≡ Event.Instruction
+calm t c p e = quiet t c p (eqb-true t 0 (and-left (eqb t 0) (eqb (fieldOf (c .hwdbg) 2 2) 0) e)) unbroken
+  where
+    two-off : (h : ℕ) → h % 4 ≡ 0 → (h % 2 ≡ 0) × (h / 2 % 2 ≡ 0)
+    two-off h q = (omega arith, omega arith)
+
+    z : fieldOf (c .hwdbg) 2 2 ≡ 0
+    z = eqb-true _ _ (and-right (eqb t 0) (eqb (fieldOf (c .hwdbg) 2 2) 0) e)
+
+    off-two : on (c .hwdbg) 2 ≡ false
+    off-two = let q : c .hwdbg / 2 ^ 2 % 2 ^ 1 ≡ 0 = two-off (c .hwdbg / 2 ^ 2) z .0 in rw q
+
+    off-three : on (c .hwdbg) 3 ≡ false
+    off-three =
+        let d : c .hwdbg / 2 ^ 3 ≡ c .hwdbg / 2 ^ 2 / 2 = omega arith in
+        let q : c .hwdbg / 2 ^ 3 % 2 ^ 1 ≡ 0 = ap (λ (n : ℕ). n % 2 ^ 1) d ∙ two-off (c .hwdbg / 2 ^ 2) z .1 in
+        rw q
+
+    unbroken : isBreak c ≡ false
+    unbroken = broken c off-two off-three
+
+-- What one more step does to a run.
+module _ (b n : ℕ) (t : List ℕ) (s : State) (m k : List ℕ) where
+  pub steps-all : stepsOf (b - 0) 0 t s m k ≡ stepsOf b 0 t s m k
+  steps-all = ap (λ (x : ℕ). stepsOf x 0 t s m k) (omega arith)
+
+  pub steps-go : (d : Done) → n < b → turnOf (getD t n 0) s m k .out ≡ Out.Go d
+      → stepsOf (b - n) n t s m k
+      ≡ stepsOf (b - (n + 1)) (n + 1) t (after d s) (turnOf (getD t n 0) s m k .mem) (turnOf (getD t n 0) s m k .marks)
+  unfolding stepsOf goOn
+  steps-go d h o =
+      let e : b - n ≡ suc (b - (n + 1)) = omega arith in
+      rw (e, o)
+
+  pub steps-stop : (r : Reply) → n < b → turnOf (getD t n 0) s m k .out ≡ Out.Stop r
+      → stepsOf (b - n) n t s m k ≡ final r n s (turnOf (getD t n 0) s m k .mem) (turnOf (getD t n 0) s m k .marks)
+  unfolding stepsOf goOn
+  steps-stop r h o =
+      let e : b - n ≡ suc (b - (n + 1)) = omega arith in
+      rw (e, o)
+
+  pub steps-end : b ≤ n → stepsOf (b - n) n t s m k ≡ final Reply.Budget n s m k
+  unfolding stepsOf
+  steps-end h =
+      let e : b - n ≡ 0 = omega arith in
+      rw e
+
+-- what is not refused: the tape is long enough
+passes : (u : Bool) (r : Reply) (x : Judged) → cond u (Judged.Refused r) x ≡ Judged.Good → (u ≡ false) × (x ≡ Judged.Good)
+passes true r x e = let z : _≡_ {A = ℕ} 0 1 = cc in absurd (omega arith)
+passes false r x e = (refl, e)
+
+pub long-tape : (b : ℕ) (t : List ℕ) (s : State) (m k : List ℕ) → judge b t s m k ≡ Judged.Good → b ≤ length t
+unfolding judge
+long-tape b t s m k e =
+    let six : Judged = cond (anyAbove 63 (take b t)) (Judged.Refused Reply.TapeByte) Judged.Good in
+    let five : Judged = cond (ltb (length t) b) (Judged.Refused Reply.TapeLength) six in
+    let four : Judged = cond (outOfForm (s .control)) (Judged.Refused Reply.Form) five in
+    let three : Judged = cond (badMark k) (Judged.Refused Reply.MarkByte) four in
+    let two : Judged = cond (not (eqb (length k) (length m))) (Judged.Refused Reply.MarkLength) three in
+    let b1 : two ≡ Judged.Good = passes (badLength (length m)) Reply.MemoryLength two e .1 in
+    let b2 : three ≡ Judged.Good = passes (not (eqb (length k) (length m))) Reply.MarkLength three b1 .1 in
+    let b3 : four ≡ Judged.Good = passes (badMark k) Reply.MarkByte four b2 .1 in
+    let b4 : five ≡ Judged.Good = passes (outOfForm (s .control)) Reply.Form five b3 .1 in
+    ltb-false (length t) b (passes (ltb (length t) b) Reply.TapeLength six b4 .0)

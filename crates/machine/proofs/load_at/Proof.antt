@@ -1,0 +1,40 @@
+use borrow.Author.Needs.{needs}
+use Rattle.machine.proofs.load_at.Statement.{statement}
+use Rattle.machine.proofs.load_at.Tie as tie
+
+bytes-requires : tie.Need-bytes-requires
+bytes-requires c κs = search needs
+
+is-inside-requires : tie.Need-is-inside-requires
+is-inside-requires c κs = search needs
+
+load-requires : tie.Need-load-requires
+load-requires c κs = search needs
+
+loaded-requires : tie.Need-loaded-requires
+loaded-requires c κs = search needs
+
+is-marked-requires : tie.Need-is-marked-requires
+is-marked-requires c κs = search needs
+
+mark-reg-requires : tie.Need-mark-reg-requires
+mark-reg-requires c κs = search needs
+
+returns : tie.Need-returns
+returns c = rw (c .mark-reg .ensures, c .before .is-marked .ensures, c .before .before .loaded .ensures, c .before .before .before .load .ensures, ← (c .before .before .before .before .before .before .bytes .ensures), ← (c .before .before .before .before .before .is-inside .ensures), c .before .before .before .before .if1 .taken)
+
+returns-2 : tie.Need-returns-2
+returns-2 c = rw (← (c .before .before .bytes .ensures), ← (c .before .is-inside .ensures), c .if1 .left)
+
+pub load-at-spec : {M : Type 1} → statement M
+load-at-spec =
+    tie.close
+    (tie.spec
+    bytes-requires
+    is-inside-requires
+    load-requires
+    loaded-requires
+    is-marked-requires
+    mark-reg-requires
+    returns
+    returns-2)

@@ -1,0 +1,99 @@
+use native.Mathlib.Omega.{arith}
+use Prim.Native.Nat.{_-_, _≤_}
+use mathlib.Core.Path.{_≡_, refl, sym, ap, _∙_}
+use borrow.Author.Needs.{needs}
+use lib.ListN.{length}
+use Rattle.machine.specs.Run.{Final, stepsOf}
+use Rattle.machine.proofs.Laws.{steps-all, steps-go, steps-stop, steps-end}
+use Rattle.machine.proofs.steps.Statement.{statement}
+use Rattle.machine.proofs.steps.Tie as tie
+
+abbrev Inv-loop : tie.InvT-loop
+Inv-loop b t m₀ k₀ state₀ n₀ m k state n = (n ≤ b) × (length m ≡ length m₀) × (length k ≡ length k₀) × (stepsOf (b - n) n t state m k ≡ stepsOf b 0 t state₀ m₀ k₀)
+
+abbrev μ-loop : tie.MeasureT-loop
+μ-loop b t m₀ k₀ state₀ n₀ m k state n = b - n
+
+loop-holds : tie.Need-loop-holds Inv-loop μ-loop
+loop-holds c = (omega arith, refl, refl, steps-all _ 0 _ _ _ _)
+
+shared-slice-read-wide : tie.Need-shared-slice-read-wide Inv-loop μ-loop
+shared-slice-read-wide c = search needs
+
+wide-requires : tie.Need-wide-requires Inv-loop μ-loop
+wide-requires c κs = search needs
+
+turn-requires : tie.Need-turn-requires Inv-loop μ-loop
+turn-requires c κs = search needs
+
+enum-known-out : tie.Need-enum-known-out Inv-loop μ-loop
+enum-known-out c = search needs
+
+same-length : tie.Need-same-length Inv-loop μ-loop
+same-length c = search needs
+
+same-length-2 : tie.Need-same-length-2 Inv-loop μ-loop
+same-length-2 c = search needs
+
+returns : tie.Need-returns Inv-loop μ-loop
+returns c =
+    let o = sym (rw (c .before .before .before .before .before .before .before .before .before .before .wide .ensures) at (c .before .before .before .before .before .before .before .turn .ensures .0)) ∙ c .before .out .given .1 in
+    let e = sym (steps-stop _ _ _ _ _ _ _ (c .before .before .before .before .before .before .before .before .before .before .before .before .loop-test .taken) o) ∙ c .before .before .before .before .before .before .before .before .before .before .before .before .before .loop .inv .3 in
+    let g = rw (c .before .before .before .before .before .before .before .before .before .before .wide .ensures) at (c .before .before .before .before .before .before .before .turn .ensures .1) in
+    (ap (λ (f : Final). f .ended) e, (g .0 ∙ ap (λ (f : Final). f .mem) e, g .1 ∙ ap (λ (f : Final). f .marks) e))
+
+enum-known-out-2 : tie.Need-enum-known-out-2 Inv-loop μ-loop
+enum-known-out-2 c = search needs
+
+apply-requires : tie.Need-apply-requires Inv-loop μ-loop
+apply-requires c κs = search needs
+
+add-n : tie.Need-add-n Inv-loop μ-loop
+add-n c = omega (arith, c .before .before .before .before .before .before .before .before .before .before .before .before .before .loop-test .taken, c .before .before .before .before .before .before .before .before .before .before .before .before .before .before .before .before .before .before .fits .b)
+
+loop-less : tie.Need-loop-less Inv-loop μ-loop
+loop-less c = omega (arith, c .before .before .before .before .before .before .before .before .before .before .before .before .before .loop-test .taken)
+
+loop-again : tie.Need-loop-again Inv-loop μ-loop
+loop-again c =
+    let o = sym (rw (c .before .before .before .before .before .before .before .before .before .before .before .wide .ensures) at (c .before .before .before .before .before .before .before .before .turn .ensures .0)) ∙ c .before .before .out2 .given .1 in
+    let g = rw (c .before .before .before .before .before .before .before .before .before .before .before .wide .ensures) at (c .before .before .before .before .before .before .before .before .turn .ensures .1) in (
+      omega (arith, c .before .before .before .before .before .before .before .before .before .before .before .before .before .loop-test .taken),
+      c .before .before .before .before .before .before .before .before .turn .kept .1 .1 .0 ∙ c .before .before .before .before .before .before .before .before .before .before .before .before .before .before .loop .inv .1,
+      c .before .before .before .before .before .before .before .before .turn .kept .1 .1 .1 .0 ∙ c .before .before .before .before .before .before .before .before .before .before .before .before .before .before .loop .inv .2,
+      rw (c .apply .ensures, g .0, g .1) (sym (steps-go _ _ _ _ _ _ _ (c .before .before .before .before .before .before .before .before .before .before .before .before .before .loop-test .taken) o) ∙ c .before .before .before .before .before .before .before .before .before .before .before .before .before .before .loop .inv .3),
+    )
+
+same-length-3 : tie.Need-same-length-3 Inv-loop μ-loop
+same-length-3 c = search needs
+
+same-length-4 : tie.Need-same-length-4 Inv-loop μ-loop
+same-length-4 c = search needs
+
+returns-2 : tie.Need-returns-2 Inv-loop μ-loop
+returns-2 c =
+    let e = sym (steps-end _ _ _ _ _ _ (c .loop-test .left)) ∙ c .before .loop .inv .3 in
+    (ap (λ (f : Final). f .ended) e, (ap (λ (f : Final). f .mem) e, ap (λ (f : Final). f .marks) e))
+
+pub steps-spec : {M : Type 1} → statement M
+steps-spec =
+    tie.close
+    (tie.spec
+    Inv-loop
+    μ-loop
+    loop-holds
+    shared-slice-read-wide
+    wide-requires
+    turn-requires
+    enum-known-out
+    same-length
+    same-length-2
+    returns
+    enum-known-out-2
+    apply-requires
+    add-n
+    loop-less
+    loop-again
+    same-length-3
+    same-length-4
+    returns-2)

@@ -1,0 +1,57 @@
+-- A run under a budget, with its refusals (document 01, "Replies of a run").
+-- Assumes nothing.
+use Prim.Native.Nat.{ℕ, zero, suc, _+_, _%_}
+use mathlib.Core.Bool.{Bool, cond, not, _||_}
+use mathlib.Core.List.{List}
+use lib.Dec.{ltb, eqb}
+use lib.ListN.{length, getD, take}
+use Rattle.marks.specs.Memory.{anyAbove, badMark}
+use Rattle.machine.specs.State.{outOfForm}
+use Rattle.machine.specs.Step.{turnOf, after}
+use Rattle.machine.specs.declared.State.{State}
+use Rattle.machine.specs.declared.Reply.{Reply}
+use Rattle.machine.specs.declared.Judged.{Judged}
+use Rattle.machine.specs.declared.Out.{Out}
+use Rattle.machine.specs.declared.Ended.{Ended}
+
+pub record Final : Type 0 where
+  pub ended : Ended
+  pub mem : List ℕ
+  pub marks : List ℕ
+
+abbrev pub final : Reply → ℕ → State → List ℕ → List ℕ → Final
+final r n s m k = record { ended = record { state = s; steps = n; reply = r }; mem = m; marks = k }
+
+-- "1 memory length is 0, above 65,536, or no multiple of 4"
+abbrev pub badLength : ℕ → Bool
+badLength n = eqb n 0 || ltb 65536 n || not (eqb (n % 4) 0)
+
+-- refusals 1 to 6, in this order; t is the tape, b the budget
+unfoldable pub judge : ℕ → List ℕ → State → List ℕ → List ℕ → Judged
+judge b t s m k =
+    cond (badLength (length m)) (Judged.Refused Reply.MemoryLength)
+    (cond (not (eqb (length k) (length m))) (Judged.Refused Reply.MarkLength)
+    (cond (badMark k) (Judged.Refused Reply.MarkByte)
+    (cond (outOfForm (s .control)) (Judged.Refused Reply.Form)
+    (cond (ltb (length t) b) (Judged.Refused Reply.TapeLength)
+    (cond (anyAbove 63 (take b t)) (Judged.Refused Reply.TapeByte)
+    Judged.Good)))))
+
+-- n steps are made, and the next one turned out so: it stops, with the state before it, or it is completed and the run goes on
+unfoldable pub goOn : (State → List ℕ → List ℕ → Final) → ℕ → State → Out → List ℕ → List ℕ → Final
+goOn rest n s (Out.Stop r) m k = final r n s m k
+goOn rest n s (Out.Go d) m k = rest (after d s) m k
+
+-- b more steps may be made
+unfoldable pub stepsOf : ℕ → ℕ → List ℕ → State → List ℕ → List ℕ → Final
+stepsOf zero n t s m k = final Reply.Budget n s m k
+stepsOf (suc b) n t s m k =
+    goOn (stepsOf b (n + 1) t) n s (turnOf (getD t n 0) s m k .out) (turnOf (getD t n 0) s m k .mem) (turnOf (getD t n 0) s m k .marks)
+
+-- "Replies 1 to 6 return steps 0 and leave state, memory and marks as given"
+abbrev pub judged : Judged → ℕ → List ℕ → State → List ℕ → List ℕ → Final
+judged (Judged.Refused r) b t s m k = final r 0 s m k
+judged Judged.Good b t s m k = stepsOf b 0 t s m k
+
+unfoldable pub runOf : ℕ → List ℕ → State → List ℕ → List ℕ → Final
+runOf b t s m k = judged (judge b t s m k) b t s m k

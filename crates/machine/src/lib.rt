@@ -1,0 +1,703 @@
+// The machine: fetch, choice, one step, refusals, and a run under a budget.
+ghost use mathlib.Core.Path.{_≡_};
+ghost use mathlib.Core.Bool.{true, false, cond, not, _&&_, _||_};
+ghost use Prim.Native.Nat.{ℕ, _+_, _-_, _*_, _/_, _%_, _^_, _≤_, _<_};
+ghost use lib.ListN.{length, getD, set, take};
+ghost use lib.Dec.{ltb, eqb};
+ghost use Rattle.word.specs.Bits.{on};
+ghost use Rattle.word.specs.Bytes.{bytesOf, inside};
+ghost use Rattle.word.specs.declared.Width.{Width};
+ghost use Rattle.cpu.specs.Entries.{watched};
+ghost use Rattle.cpu.specs.declared.Reach.{Reach};
+ghost use Rattle.marks.specs.Marks.{with};
+ghost use Rattle.machine.specs.State.{numberOf, freshState, valueAt, outOfForm};
+ghost use Rattle.machine.specs.Fetch.{found, halfAt, secondOf, isLongKind, restOf, fetchOf};
+ghost use Rattle.machine.specs.Step.{lowest, orBreak, lineOr, chosen, storedTo, markedTo, watchedBy, loadAct, storeAct, actOf, doneOf, actOut, actMem, actMarks, instrTurn, entryOut, turnOf, after};
+ghost use Rattle.machine.specs.Run.{badLength, judge, stepsOf, runOf};
+use cpu::Control;
+use cpu::Effect;
+use cpu::Reach;
+use isa::Decoded;
+use isa::Instr;
+use isa::Kind;
+use marks::Flags;
+use marks::Taint;
+use word::ByteAddr;
+use word::Width;
+
+// Sixteen registers, each with a mark; the marks of TF and CY; and what is never marked.
+pub struct State {
+    pub regs: [u32; 16],
+    pub marks: [bool; 16],
+    pub flags: Flags,
+    pub control: Control,
+}
+
+// A register's value and mark.
+pub struct Val {
+    pub value: u32,
+    pub mark: bool,
+}
+
+pub enum Reply {
+    MemoryLength,
+    MarkLength,
+    MarkByte,
+    Form,
+    TapeLength,
+    TapeByte,
+    Budget,
+    FetchOutside,
+    FetchMarked,
+    NoInstruction,
+    MarkedOperand,
+    DataOutside,
+}
+
+// What a step does: an entry, or one instruction.
+pub enum Event {
+    Timer,
+    Line(u32),
+    Break,
+    Instruction,
+}
+
+pub enum Fetched {
+    Stop(Reply),
+    Run(Instr),
+}
+
+// One instruction: it stops, or has an effect, marks, and a place in memory.
+pub enum Act {
+    Stop(Reply),
+    Does(Effect, Taint, Reach),
+}
+
+// A completed step: the control part and the flags' marks after it; a register (16: none), its value and its mark.
+pub struct Done {
+    pub control: Control,
+    pub flags: Flags,
+    pub reg: u32,
+    pub value: u32,
+    pub mark: bool,
+}
+
+pub enum Out {
+    Stop(Reply),
+    Go(Done),
+}
+
+pub enum Judged {
+    Refused(Reply),
+    Good,
+}
+
+pub struct Ended {
+    pub state: State,
+    pub steps: usize,
+    pub reply: Reply,
+}
+
+// ---- replies and the state
+
+pub fn number(r: Reply) -> u32
+    ensures { λ n. ⌜ n ≡ numberOf r ⌝ }
+{
+    match r {
+        Reply::MemoryLength => 1,
+        Reply::MarkLength => 2,
+        Reply::MarkByte => 3,
+        Reply::Form => 4,
+        Reply::TapeLength => 5,
+        Reply::TapeByte => 6,
+        Reply::Budget => 10,
+        Reply::FetchOutside => 11,
+        Reply::FetchMarked => 12,
+        Reply::NoInstruction => 13,
+        Reply::MarkedOperand => 14,
+        Reply::DataOutside => 15,
+    }
+}
+
+pub fn fresh() -> State
+    ensures { λ r. ⌜ r ≡ freshState ⌝ }
+{
+    State {
+        regs: [0; 16],
+        marks: [false; 16],
+        flags: Flags {
+            tf: false,
+            cy: false,
+        },
+        control: cpu::fresh_control(),
+    }
+}
+
+fn both(a: bool, b: bool) -> bool
+    ensures { λ r. ⌜ r ≡ (a && b) ⌝ }
+{
+    if a { b } else { false }
+}
+
+// A register's value and mark, and registers with one of them replaced; there are sixteen.
+fn value_at(regs: [u32; 16], marks: [bool; 16], i: u32) -> Val
+    ensures { λ r. ⌜ r ≡ record { value = getD regs i 0; mark = getD marks i false } ⌝ }
+{
+    if i < 16 {
+        let k = i as usize;
+        return Val {
+            value: regs[k],
+            mark: marks[k],
+        };
+    }
+    Val {
+        value: 0,
+        mark: false,
+    }
+}
+
+fn put_value(regs: [u32; 16], i: u32, v: u32) -> [u32; 16]
+    ensures { λ r. ⌜ r ≡ set regs i v ⌝ }
+{
+    if i < 16 {
+        let mut n = regs;
+        let k = i as usize;
+        n[k] = v;
+        return n;
+    }
+    regs
+}
+
+fn put_mark(marks: [bool; 16], i: u32, m: bool) -> [bool; 16]
+    ensures { λ r. ⌜ r ≡ set marks i m ⌝ }
+{
+    if i < 16 {
+        let mut n = marks;
+        let k = i as usize;
+        n[k] = m;
+        return n;
+    }
+    marks
+}
+
+// ---- fetch
+
+fn found_in(d: Decoded) -> Fetched
+    ensures { λ r. ⌜ r ≡ found d ⌝ }
+{
+    match d {
+        Decoded::Short(i) => Fetched::Run(i),
+        Decoded::Long(i) => Fetched::Run(i),
+        Decoded::Nothing => Fetched::Stop(Reply::NoInstruction),
+    }
+}
+
+fn is_inside(m: &[u8], at: u32, n: u32) -> bool
+    ensures { λ r. ⌜ r ≡ inside (now (m .entry)) at n ⌝ }
+{
+    let end = at as usize + n as usize;
+    end <= m.len()
+}
+
+fn half_at(m: &[u8], at: u32) -> u16
+    ensures { λ r. ⌜ r ≡ halfAt (now (m .entry)) at ⌝ }
+{
+    word::load(Width::Half, m, ByteAddr(at)) as u16
+}
+
+fn is_long(k: Kind) -> bool
+    ensures { λ r. ⌜ r ≡ isLongKind k ⌝ }
+{
+    match k {
+        Kind::Nothing => false,
+        Kind::Alu(_) => false,
+        Kind::ShiftImm(_) => false,
+        Kind::Cmp(_) => false,
+        Kind::CmpImm(_) => false,
+        Kind::Cond(_, _) => false,
+        Kind::CondImm(_) => false,
+        Kind::Ldrpc => false,
+        Kind::Imm(_) => false,
+        Kind::Load(_) => false,
+        Kind::Store(_) => false,
+        Kind::Mfsfr => false,
+        Kind::Mtsfr => false,
+        Kind::Jr => false,
+        Kind::Jrl => false,
+        Kind::Jsfr => false,
+        Kind::Swint => false,
+        Kind::ShortJump(_) => false,
+        Kind::LongJump(_) => true,
+    }
+}
+
+fn second_at(k: Kind, first: u16, at: u32, m: &[u8], mk: &[u8]) -> Fetched
+    ensures { λ r. ⌜ r ≡ secondOf k first at (now (m .entry)) (now (mk .entry)) ⌝ }
+{
+    if is_inside(m, at, 2) {
+        if word::has_any(Width::Half, mk, ByteAddr(at)) {
+            return Fetched::Stop(Reply::FetchMarked);
+        }
+        return found_in(isa::operands(k, first, half_at(m, at)));
+    }
+    Fetched::Stop(Reply::FetchOutside)
+}
+
+fn rest_at(k: Kind, first: u16, at: u32, m: &[u8], mk: &[u8]) -> Fetched
+    ensures { λ r. ⌜ r ≡ restOf k first at (now (m .entry)) (now (mk .entry)) ⌝ }
+{
+    if is_long(k) {
+        return second_at(k, first, std::num::wrapping_add_u32(at, 2), m, mk);
+    }
+    found_in(isa::operands(k, first, 0))
+}
+
+fn fetch(at: u32, m: &[u8], mk: &[u8]) -> Fetched
+    ensures { λ r. ⌜ r ≡ fetchOf at (now (m .entry)) (now (mk .entry)) ⌝ }
+{
+    let odd = at % 2;
+    if odd == 1 {
+        return Fetched::Stop(Reply::NoInstruction);
+    }
+    if is_inside(m, at, 2) {
+        if word::has_any(Width::Half, mk, ByteAddr(at)) {
+            return Fetched::Stop(Reply::FetchMarked);
+        }
+        let first = half_at(m, at);
+        return rest_at(isa::kind_of((first / 256) as u8), first, at, m, mk);
+    }
+    Fetched::Stop(Reply::FetchOutside)
+}
+
+// ---- the choice
+
+fn is_taken(t: u32, p: u32, i: u32) -> bool
+    requires { ⌜ i < 6 ⌝ }
+    ensures { λ r. ⌜ r ≡ (on t i && on p (20 + i)) ⌝ }
+{
+    both(word::is_on(t, i), word::is_on(p, 20 + i))
+}
+
+fn lowest_line(t: u32, p: u32) -> u32
+    ensures { λ r. ⌜ r ≡ lowest 6 0 t p ⌝ }
+{
+    let mut i: u32 = 0;
+    while i < 6 {
+        if is_taken(t, p, i) {
+            return i;
+        }
+        i += 1;
+    }
+    i
+}
+
+fn break_or(c: Control) -> Event
+    ensures { λ r. ⌜ r ≡ orBreak c ⌝ }
+{
+    if cpu::has_break(c) {
+        Event::Break
+    } else {
+        Event::Instruction
+    }
+}
+
+fn line_or(i: u32, c: Control) -> Event
+    ensures { λ r. ⌜ r ≡ lineOr i c ⌝ }
+{
+    if i < 6 { Event::Line(i) } else { break_or(c) }
+}
+
+// IE is 1 and IP is 0.
+fn is_open(p: u32) -> bool
+    ensures { λ r. ⌜ r ≡ (on p 5 && not (on p 3)) ⌝ }
+{
+    both(word::is_on(p, 5), !word::is_on(p, 3))
+}
+
+fn choose_any(t: u32, c: Control) -> Event
+    ensures { λ r. ⌜ r ≡ chosen t c ⌝ }
+{
+    if is_open(c.psw) {
+        if both(c.pending, word::is_on(c.psw, 4)) {
+            return Event::Timer;
+        }
+        return line_or(lowest_line(t, c.psw), c);
+    }
+    break_or(c)
+}
+
+// Nothing rare can happen: no line is high, no timer pends, and no breakpoint is enabled.
+fn is_calm(t: u32, c: Control) -> bool
+    ensures { λ r. ⌜ (r ≡ true → chosen t c ≡ Event.Instruction) ⌝ }
+{
+    if c.pending {
+        return false;
+    }
+    both(t == 0, word::field(c.hwdbg, 2, 2) == 0)
+}
+
+fn choose(t: u32, c: Control) -> Event
+    ensures { λ r. ⌜ r ≡ chosen t c ⌝ }
+{
+    if is_calm(t, c) {
+        Event::Instruction
+    } else {
+        choose_any(t, c)
+    }
+}
+
+// ---- one instruction
+
+fn stop_if(t: bool, a: Act) -> Act
+    ensures { λ r. ⌜ r ≡ cond t (Act.Stop Reply.MarkedOperand) a ⌝ }
+{
+    if t {
+        Act::Stop(Reply::MarkedOperand)
+    } else {
+        a
+    }
+}
+
+fn does(e: Effect, t: Taint) -> Act
+    ensures { λ r. ⌜ r ≡ Act.Does e t Reach.Nowhere ⌝ }
+{
+    Act::Does(e, t, Reach::Nowhere)
+}
+
+fn keep(f: Flags) -> Taint
+    ensures { λ r. ⌜ r ≡ with false f ⌝ }
+{
+    marks::mark_reg(false, f)
+}
+
+fn bytes(w: Width) -> u32
+    ensures { λ r. ⌜ r ≡ bytesOf w ⌝ }
+{
+    match w {
+        Width::Byte => 1,
+        Width::Half => 2,
+        Width::Word => 4,
+    }
+}
+
+fn load_at(w: Width, at: ByteAddr, d: u32, f: Flags, c: Control, m: &[u8], mk: &[u8]) -> Act
+    ensures { λ r. ⌜ r ≡ loadAct w at d f c (now (m .entry)) (now (mk .entry)) ⌝ }
+{
+    if is_inside(m, at.0, bytes(w)) {
+        let e = cpu::loaded(d, word::load(w, m, at), c);
+        let t = marks::mark_reg(marks::is_marked(w, mk, at), f);
+        return Act::Does(e, t, Reach::Reads(w, at));
+    }
+    Act::Stop(Reply::DataOutside)
+}
+
+fn store_at(w: Width, at: ByteAddr, f: Flags, c: Control, m: &[u8]) -> Act
+    ensures { λ r. ⌜ r ≡ storeAct w at f c (now (m .entry)) ⌝ }
+{
+    if is_inside(m, at.0, bytes(w)) {
+        return Act::Does(cpu::stored(c), keep(f), Reach::Writes(w, at));
+    }
+    Act::Stop(Reply::DataOutside)
+}
+
+fn act_on(i: Instr, x: Val, y: Val, f: Flags, c: Control, m: &[u8], mk: &[u8]) -> Act
+    ensures { λ r. ⌜ r ≡ actOf i x y f c (now (m .entry)) (now (mk .entry)) ⌝ }
+{
+    let u = x.value;
+    let v = y.value;
+    match i {
+        Instr::Alu(op, d, _) => does(
+            cpu::alu(op, d, u, v, c),
+            marks::mark_alu(op, x.mark, y.mark, f),
+        ),
+        Instr::ShiftImm(op, d, n) => does(
+            cpu::shift_imm(op, d, n, u, c),
+            marks::mark_reg(x.mark, f),
+        ),
+        Instr::Cmp(op, _, _) => does(
+            cpu::compare(op, u, v, c),
+            marks::mark_tf(marks::either(x.mark, y.mark), f),
+        ),
+        Instr::CmpImm(op, _, n) => does(cpu::compare_imm(op, n, u, c), marks::mark_tf(x.mark, f)),
+        Instr::Cond(op, t, d, _) => does(
+            cpu::conditional(op, t, d, u, v, c),
+            marks::mark_conditional(op, t, word::is_on(c.psw, 8), x.mark, y.mark, f),
+        ),
+        Instr::CondImm(t, d, n) => does(
+            cpu::conditional_imm(t, d, n, u, c),
+            marks::mark_reg(marks::either(f.tf, x.mark), f),
+        ),
+        Instr::Ldrpc(d, n) => load_at(
+            Width::Word,
+            cpu::data_address(Width::Word, c.pc, n),
+            d,
+            f,
+            c,
+            m,
+            mk,
+        ),
+        Instr::Imm(op, d, n) => does(
+            cpu::immediate(op, d, n, u, c),
+            marks::mark_imm(op, x.mark, f),
+        ),
+        Instr::Load(w, d, n, _) => stop_if(
+            y.mark,
+            load_at(w, cpu::data_address(w, v, n), d, f, c, m, mk),
+        ),
+        Instr::Store(w, _, n, _) => stop_if(
+            y.mark,
+            store_at(w, cpu::data_address(w, v, n), f, c, m),
+        ),
+        Instr::Mfsfr(d, n) => does(
+            cpu::mfsfr(d, n, c),
+            marks::mark_reg(marks::is_sfr_marked(n, f), f),
+        ),
+        Instr::Mtsfr(n, _) => stop_if(y.mark, does(cpu::mtsfr(n, v, c), marks::mark_mtsfr(n, f))),
+        Instr::Jr(_) => stop_if(y.mark, does(cpu::jr(v, c), keep(f))),
+        Instr::Jrl(_) => stop_if(y.mark, does(cpu::jrl(v, c), keep(f))),
+        Instr::Jsfr(n) => stop_if(marks::is_sfr_marked(n, f), does(cpu::jsfr(n, c), keep(f))),
+        Instr::Swint(n) => does(cpu::swint(n, c), keep(f)),
+        Instr::ShortJump(op, d) => stop_if(
+            marks::is_short_blocked(op, f),
+            does(cpu::short_jump(op, d, c), keep(f)),
+        ),
+        Instr::LongJump(op, d) => stop_if(
+            marks::is_long_blocked(op, f),
+            does(cpu::long_jump(op, d, c), keep(f)),
+        ),
+    }
+}
+
+fn watch_by(r: Reach, c: Control) -> Control
+    ensures { λ n. ⌜ n ≡ watchedBy r c ⌝ }
+{
+    match r {
+        Reach::Nowhere => c,
+        Reach::Reads(_, a) => watch(a.0, c),
+        Reach::Writes(_, a) => watch(a.0, c),
+    }
+}
+
+fn watch(a: u32, c: Control) -> Control
+    ensures { λ r. ⌜ r ≡ watched a c ⌝ }
+{
+    let hit = cpu::watch_at(a, c);
+    if 0 < hit { cpu::enter_debug(hit, c) } else { c }
+}
+
+fn finish(c: Control, e: Effect, t: Taint, r: Reach) -> Done
+    ensures { λ d. ⌜ d ≡ doneOf c e t r ⌝ }
+{
+    let made = e.control;
+    let flags = t.flags;
+    let te = both(word::is_on(c.psw, 4), !e.wrote);
+    Done {
+        control: cpu::fall(te, watch_by(r, made)),
+        flags,
+        reg: e.reg,
+        value: e.value,
+        mark: t.reg,
+    }
+}
+
+// ---- the step
+
+fn write_at(r: Reach, x: Val, m: &mut [u8], mk: &mut [u8])
+    ensures { λ _. ⌜ now (m .exit) ≡ storedTo r (x .value) (now (m .entry)) ⌝ }
+    ensures { λ _. ⌜ now (mk .exit) ≡ markedTo r (x .mark) (now (mk .entry)) ⌝ }
+{
+    match r {
+        Reach::Nowhere => {}
+        Reach::Reads(_, _) => {}
+        Reach::Writes(w, a) => {
+            word::store(w, m, a, x.value);
+            marks::set_marks(w, mk, a, x.mark);
+        }
+    }
+}
+
+fn act_turn(a: Act, x: Val, c: Control, m: &mut [u8], mk: &mut [u8]) -> Out
+    ensures { λ r. ⌜ r ≡ actOut a c ⌝ }
+    ensures { λ _. ⌜ now (m .exit) ≡ actMem a x (now (m .entry)) ⌝ }
+    ensures { λ _. ⌜ now (mk .exit) ≡ actMarks a x (now (mk .entry)) ⌝ }
+{
+    match a {
+        Act::Stop(r) => Out::Stop(r),
+        Act::Does(e, t, r) => {
+            write_at(r, x, m, mk);
+            Out::Go(finish(c, e, t, r))
+        }
+    }
+}
+
+fn instr_turn(i: Instr, s: State, m: &mut [u8], mk: &mut [u8]) -> Out
+    ensures { λ r. ⌜ r ≡ instrTurn i s (now (m .entry)) (now (mk .entry)) .out ⌝ }
+    ensures { λ _. ⌜ now (m .exit) ≡ instrTurn i s (now (m .entry)) (now (mk .entry)) .mem ⌝ }
+    ensures { λ _. ⌜ now (mk .exit) ≡ instrTurn i s (now (m .entry)) (now (mk .entry)) .marks ⌝ }
+{
+    let o = cpu::operands_of(i);
+    let regs = s.regs;
+    let marks = s.marks;
+    let flags = s.flags;
+    let c = s.control;
+    let x = value_at(regs, marks, o.first);
+    let y = value_at(regs, marks, o.second);
+    let a = act_on(i, x, y, flags, c, m, mk);
+    act_turn(a, x, c, m, mk)
+}
+
+fn enter(e: Control, s: State) -> Out
+    ensures { λ r. ⌜ r ≡ entryOut e s ⌝ }
+{
+    let flags = s.flags;
+    let c = s.control;
+    Out::Go(Done {
+        control: cpu::fall(word::is_on(c.psw, 4), e),
+        flags,
+        reg: 16,
+        value: 0,
+        mark: false,
+    })
+}
+
+fn turn(t: u32, s: State, m: &mut [u8], mk: &mut [u8]) -> Out
+    ensures { λ r. ⌜ r ≡ turnOf t s (now (m .entry)) (now (mk .entry)) .out ⌝ }
+    ensures { λ _. ⌜ now (m .exit) ≡ turnOf t s (now (m .entry)) (now (mk .entry)) .mem ⌝ }
+    ensures { λ _. ⌜ now (mk .exit) ≡ turnOf t s (now (m .entry)) (now (mk .entry)) .marks ⌝ }
+{
+    let c = s.control;
+    let e = choose(t, c);
+    match e {
+        Event::Timer => enter(cpu::enter_timer(c), s),
+        Event::Line(i) => enter(cpu::enter_external(i, c), s),
+        Event::Break => enter(cpu::enter_debug(1, c), s),
+        Event::Instruction => {
+            let f = fetch(c.pc, m, mk);
+            match f {
+                Fetched::Stop(r) => Out::Stop(r),
+                Fetched::Run(i) => instr_turn(i, s, m, mk),
+            }
+        }
+    }
+}
+
+fn apply(d: Done, s: State) -> State
+    ensures { λ r. ⌜ r ≡ after d s ⌝ }
+{
+    let regs = s.regs;
+    let marks = s.marks;
+    let flags = d.flags;
+    let control = d.control;
+    State {
+        regs: put_value(regs, d.reg, d.value),
+        marks: put_mark(marks, d.reg, d.mark),
+        flags,
+        control,
+    }
+}
+
+// ---- refusals
+
+fn is_bad_length(n: usize) -> bool
+    ensures { λ r. ⌜ r ≡ badLength n ⌝ }
+{
+    let none = n == 0;
+    let long = 65536 < n;
+    let whole = n % 4 == 0;
+    marks::either(marks::either(none, long), !whole)
+}
+
+fn is_out_of_form(c: Control) -> bool
+    ensures { λ r. ⌜ r ≡ outOfForm c ⌝ }
+{
+    let odd = c.pc % 2 == 1;
+    let twelve = word::is_on(c.psw, 12);
+    let fixed = word::field(c.hwdbg, 0, 2) == 3;
+    let high = 511 < c.hwdbg;
+    let late = both(c.pending, 0 < c.timer);
+    let low = marks::either(marks::either(odd, twelve), !fixed);
+    marks::either(marks::either(low, high), late)
+}
+
+fn judge_all(b: usize, t: &[u8], s: State, m: &[u8], k: &[u8]) -> Judged
+    ensures { λ r. ⌜ r ≡ judge b (now (t .entry)) s (now (m .entry)) (now (k .entry)) ⌝ }
+{
+    if is_bad_length(m.len()) {
+        return Judged::Refused(Reply::MemoryLength);
+    }
+    let n = m.len();
+    let l = k.len();
+    if l != n {
+        return Judged::Refused(Reply::MarkLength);
+    }
+    if marks::has_bad_mark(k) {
+        return Judged::Refused(Reply::MarkByte);
+    }
+    let c = s.control;
+    if is_out_of_form(c) {
+        return Judged::Refused(Reply::Form);
+    }
+    if t.len() < b {
+        return Judged::Refused(Reply::TapeLength);
+    }
+    if marks::has_above(63, &t[..b]) {
+        return Judged::Refused(Reply::TapeByte);
+    }
+    Judged::Good
+}
+
+// ---- the run
+
+fn wide(x: u8) -> u32
+    ensures { λ r. ⌜ r ≡ x ⌝ }
+{
+    x as u32
+}
+
+fn steps(b: usize, t: &[u8], s: State, m: &mut [u8], k: &mut [u8]) -> Ended
+    requires { ⌜ b ≤ length (now t) ⌝ }
+    ensures { λ r. ⌜ r ≡ stepsOf b 0 (now (t .entry)) s (now (m .entry)) (now (k .entry)) .ended ⌝ }
+    ensures { λ _. ⌜ now (m .exit) ≡ stepsOf b 0 (now (t .entry)) s (now (m .entry)) (now (k .entry)) .mem ⌝ }
+    ensures { λ _. ⌜ now (k .exit) ≡ stepsOf b 0 (now (t .entry)) s (now (m .entry)) (now (k .entry)) .marks ⌝ }
+{
+    let mut state = s;
+    let mut n: usize = 0;
+    while n < b {
+        let out = turn(wide(t[n]), state, m, k);
+        match out {
+            Out::Stop(reply) => {
+                return Ended {
+                    state,
+                    steps: n,
+                    reply,
+                };
+            }
+            Out::Go(d) => {
+                state = apply(d, state);
+                n += 1;
+            }
+        }
+    }
+    Ended {
+        state,
+        steps: n,
+        reply: Reply::Budget,
+    }
+}
+
+// A run over any memory, marks, state, tape and budget: refusals 1 to 6, or steps until the budget is used up or one stops.
+pub fn run(b: usize, t: &[u8], s: State, m: &mut [u8], k: &mut [u8]) -> Ended
+    ensures { λ r. ⌜ r ≡ runOf b (now (t .entry)) s (now (m .entry)) (now (k .entry)) .ended ⌝ }
+    ensures { λ _. ⌜ now (m .exit) ≡ runOf b (now (t .entry)) s (now (m .entry)) (now (k .entry)) .mem ⌝ }
+    ensures { λ _. ⌜ now (k .exit) ≡ runOf b (now (t .entry)) s (now (m .entry)) (now (k .entry)) .marks ⌝ }
+{
+    let j = judge_all(b, t, s, m, k);
+    match j {
+        Judged::Refused(reply) => Ended {
+            state: s,
+            steps: 0,
+            reply,
+        },
+        Judged::Good => steps(b, t, s, m, k),
+    }
+}

@@ -1,0 +1,13 @@
+use Rattle.marks.proofs.Laws.{same-true}
+use borrow.Author.Needs.{needs}
+use Rattle.marks.proofs.same.Statement.{statement}
+use Rattle.marks.proofs.same.Tie as tie
+
+returns : tie.Need-returns
+returns c = rw (c .if1 .taken) (same-true (c .before .args .b))
+
+returns-2 : tie.Need-returns-2
+returns-2 c = search needs
+
+pub same-spec : {M : Type 1} → statement M
+same-spec = tie.close (tie.spec returns returns-2)
