@@ -3,3 +3,4 @@ pub mod Fetch
 pub mod Step
 pub mod Run
 pub mod Trace
+pub mod Form
