@@ -32,3 +32,6 @@ pub mod record;
 
 /// The small program.
 pub mod script;
+
+/// The cases and answers of `docs/CORPUS.md`, which the proved library computes too.
+pub mod corpus;

@@ -5,22 +5,27 @@ use std::ffi::OsString;
 use std::io::{self, Read, Write};
 use std::process::ExitCode;
 
-use second::{script, vectors};
+use second::{corpus, script, vectors};
 
 const USAGE: &str = "usage: second SUBCOMMAND
 
 subcommands:
-  vectors-isa   write the vectors of words and instructions (docs/VECTORS.md)
-  script        answer the small program's lines, read from standard input (document 01)
+  vectors-isa      write the vectors of words and instructions (docs/VECTORS.md)
+  script           answer the small program's lines, read from standard input (document 01)
+  corpus-cases     write the cases of the corpus of whole runs, in binary (docs/CORPUS.md)
+  corpus-answers   write the answers to these cases
+  corpus-coverage  write how often these cases reach each mnemonic, reply and entry
 ";
 
-/// The text that a good call writes; none if the call is wrong.
-fn output(arguments: &[OsString]) -> Option<io::Result<String>> {
-    match arguments {
-        [subcommand] if subcommand == "vectors-isa" => Some(Ok(vectors::vectors())),
-        [subcommand] if subcommand == "script" => {
-            Some(standard_input().map(|input| script::answer(&input)))
-        }
+/// The bytes that a good call writes; none if the call is wrong.
+fn output(arguments: &[OsString]) -> Option<io::Result<Vec<u8>>> {
+    let [subcommand] = arguments else { return None };
+    match subcommand.to_str()? {
+        "vectors-isa" => Some(Ok(vectors::vectors().into_bytes())),
+        "script" => Some(standard_input().map(|input| script::answer(&input).into())),
+        "corpus-cases" => Some(Ok(corpus::cases_file())),
+        "corpus-answers" => Some(Ok(corpus::answers_file().into_bytes())),
+        "corpus-coverage" => Some(Ok(corpus::coverage(&corpus::cases()).text().into_bytes())),
         _ => None,
     }
 }
@@ -33,11 +38,11 @@ fn standard_input() -> io::Result<Vec<u8>> {
 
 fn main() -> ExitCode {
     let arguments: Vec<OsString> = env::args_os().skip(1).collect();
-    let Some(text) = output(&arguments) else {
+    let Some(bytes) = output(&arguments) else {
         eprint!("{USAGE}");
         return ExitCode::from(2);
     };
-    match text.and_then(|text| io::stdout().write_all(text.as_bytes())) {
+    match bytes.and_then(|bytes| io::stdout().write_all(&bytes)) {
         Ok(()) => ExitCode::SUCCESS,
         Err(error) => {
             eprintln!("second: {error}");

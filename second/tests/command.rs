@@ -3,6 +3,7 @@
 use std::io::Write;
 use std::process::{Command, Output, Stdio};
 
+use second::corpus;
 use second::vectors::vectors;
 
 /// Runs the command with this standard input.
@@ -38,6 +39,31 @@ fn script_answers_standard_input() {
         assert_eq!(output.status.code(), Some(0));
         assert_eq!(output.stdout, expected);
         assert!(output.stderr.is_empty());
+    }
+}
+
+#[test]
+fn the_corpus_subcommands_write_the_corpus() {
+    let coverage = corpus::coverage(&corpus::cases()).text();
+    let outputs = [
+        ("corpus-cases", corpus::cases_file()),
+        ("corpus-answers", corpus::answers_file().into_bytes()),
+        ("corpus-coverage", coverage.into_bytes()),
+    ];
+    for (subcommand, expected) in outputs {
+        let output = run(&[subcommand], b"");
+        assert_eq!(output.status.code(), Some(0), "{subcommand}");
+        assert!(output.stdout == expected, "{subcommand}");
+        assert!(output.stderr.is_empty(), "{subcommand}");
+    }
+}
+
+#[test]
+fn the_usage_lists_every_subcommand() {
+    let usage = String::from_utf8(run(&[], b"").stderr).expect("plain text");
+    for subcommand in ["vectors-isa", "script", "corpus-cases", "corpus-answers", "corpus-coverage"]
+    {
+        assert!(usage.contains(&format!("\n  {subcommand} ")), "{subcommand}: {usage}");
     }
 }
 

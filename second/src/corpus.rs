@@ -1,0 +1,107 @@
+//! The corpus of whole runs, as `docs/CORPUS.md` defines it: cases and their answers.
+
+mod build;
+mod coverage;
+mod edges;
+mod random;
+
+pub use coverage::{coverage, Coverage};
+pub use edges::edges;
+pub use random::random;
+
+use crate::record;
+use crate::reply::Reply;
+use crate::run::{run, Outcome};
+use crate::state::State;
+
+/// The number of generated cases, and the seed that they come from.
+const GENERATED: u32 = 2_500;
+const SEED: u64 = 0x4d41_4e49_4b01;
+
+/// The bounds of `docs/CORPUS.md`.
+pub const LONGEST_MEMORY: usize = 65_600;
+pub const LONGEST_TAPE: usize = 4_096;
+
+/// An input of a run.
+#[derive(Clone, Debug)]
+pub struct Case {
+    pub name: String,
+    pub state: State,
+    pub memory: Vec<u8>,
+    pub marks: Vec<u8>,
+    pub tape: Vec<u8>,
+    pub budget: u32,
+    /// The reply's number and the steps that the documents say; none for a generated case. It is
+    /// no part of the file: it holds an edge to what its name says.
+    pub promise: Option<(u32, u64)>,
+}
+
+impl Case {
+    /// Runs the case: the outcome, and the case with what the run left of it.
+    pub fn run(&self) -> (Outcome, Case) {
+        let mut after = self.clone();
+        let Case { state, memory, marks, .. } = &mut after;
+        let outcome = run(state, memory, marks, &self.tape, self.budget.into());
+        (outcome, after)
+    }
+
+    /// The bytes of the case.
+    pub fn bytes(&self) -> Vec<u8> {
+        let mut bytes = record::write(&self.state).to_vec();
+        let parts = [&self.memory, &self.marks, &self.tape];
+        for part in parts {
+            let length = u32::try_from(part.len()).expect("a part is shorter than 2^32");
+            bytes.extend(length.to_be_bytes());
+        }
+        bytes.extend(self.budget.to_be_bytes());
+        parts.into_iter().for_each(|part| bytes.extend(part));
+        bytes
+    }
+
+    /// The line that answers the case, with its newline.
+    pub fn answer(&self) -> String {
+        let (Outcome { reply, steps }, after) = self.run();
+        let record: String =
+            record::write(&after.state).iter().map(|byte| format!("{byte:02x}")).collect();
+        let (memory, marks) = (digest(&after.memory), digest(&after.marks));
+        format!("{}\t{steps}\t{record}\t{memory}\t{marks}\n", reply.number())
+    }
+}
+
+/// The digest of bytes.
+pub fn digest(bytes: &[u8]) -> u64 {
+    bytes.iter().fold(1, |digest, &byte| (digest * 1_000_003 + u64::from(byte)) % 4_294_967_291)
+}
+
+/// Every case, the edges first.
+pub fn cases() -> Vec<Case> {
+    let mut cases = edges();
+    cases.extend(random(SEED, GENERATED));
+    cases
+}
+
+/// The file of the cases.
+pub fn cases_file() -> Vec<u8> {
+    cases().iter().flat_map(Case::bytes).collect()
+}
+
+/// The file of the answers.
+pub fn answers_file() -> String {
+    cases().iter().map(Case::answer).collect()
+}
+
+/// Every reply in the order of its number.
+const REPLIES: [Reply; 12] = [
+    Reply::MemoryLength,
+    Reply::MarkLength,
+    Reply::MarkByte,
+    Reply::StateForm,
+    Reply::TapeLength,
+    Reply::TapeByte,
+    Reply::BudgetUsed,
+    Reply::FetchOutside,
+    Reply::FetchMarked,
+    Reply::NoInstruction,
+    Reply::OperandMarked,
+    Reply::DataOutside,
+];

@@ -1,0 +1,27 @@
+//! Document 01's edges as named cases, one group for each part of it.
+
+mod accesses;
+mod entries;
+mod jumps;
+mod marks;
+mod replies;
+mod special;
+mod timer;
+mod words;
+
+use super::Case;
+
+/// Every edge.
+pub fn edges() -> Vec<Case> {
+    [
+        accesses::cases(),
+        entries::cases(),
+        timer::cases(),
+        special::cases(),
+        jumps::cases(),
+        words::cases(),
+        marks::cases(),
+        replies::cases(),
+    ]
+    .concat()
+}
