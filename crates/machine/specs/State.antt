@@ -2,11 +2,13 @@
 -- Assumes nothing.
 use Prim.Native.Nat.{ℕ, _%_}
 use mathlib.Core.Bool.{Bool, false, not, _&&_, _||_}
+use mathlib.Core.List.{List}
 use lib.Dec.{ltb, eqb}
 use lib.ListN.{getD, replicate}
 use Rattle.word.specs.Bits.{on, fieldOf}
 use Rattle.cpu.specs.Control.{freshControl}
 use Rattle.cpu.specs.declared.Control.{Control}
+use Rattle.marks.specs.declared.Flags.{Flags}
 use Rattle.machine.specs.declared.State.{State}
 use Rattle.machine.specs.declared.Val.{Val}
 use Rattle.machine.specs.declared.Reply.{Reply}
@@ -28,6 +30,9 @@ numberOf Reply.DataOutside = 15
 -- "Fresh: all zero and unmarked, HWDBG 3"
 abbrev pub freshState : State
 freshState = record { regs = replicate 16 0; marks = replicate 16 false; flags = record { tf = false; cy = false }; control = freshControl }
+
+abbrev pub stateOf : List ℕ → List Bool → Flags → Control → State
+stateOf regs marks f c = record { regs = regs; marks = marks; flags = f; control = c }
 
 -- a register's value and mark
 abbrev pub valueAt : State → ℕ → Val

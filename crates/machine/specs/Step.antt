@@ -129,11 +129,11 @@ abbrev pub stopTurn : Reply → List ℕ → List ℕ → Turn
 stopTurn r m k = record { out = Out.Stop r; mem = m; marks = k }
 
 -- an entry changes the control part, and the timer falls
-abbrev pub entryOut : Control → State → Out
-entryOut e s = Out.Go (record { control = fallen (on (s .control .psw) 4) e; flags = s .flags; reg = 16; value = 0; mark = false })
+abbrev pub entryOut : Control → Flags → Control → Out
+entryOut e f c = Out.Go (record { control = fallen (on (c .psw) 4) e; flags = f; reg = 16; value = 0; mark = false })
 
 abbrev pub entryTurn : Control → State → List ℕ → List ℕ → Turn
-entryTurn e s m k = record { out = entryOut e s; mem = m; marks = k }
+entryTurn e s m k = record { out = entryOut e (s .flags) (s .control); mem = m; marks = k }
 
 -- an instruction, x what it may store
 abbrev pub actOut : Act → Control → Out

@@ -10,9 +10,9 @@ ghost use Rattle.word.specs.declared.Width.{Width};
 ghost use Rattle.cpu.specs.Entries.{watched};
 ghost use Rattle.cpu.specs.declared.Reach.{Reach};
 ghost use Rattle.marks.specs.Marks.{with};
-ghost use Rattle.machine.specs.State.{numberOf, freshState, valueAt, outOfForm};
+ghost use Rattle.machine.specs.State.{numberOf, freshState, stateOf, outOfForm};
 ghost use Rattle.machine.specs.Fetch.{found, halfAt, secondOf, isLongKind, restOf, fetchOf};
-ghost use Rattle.machine.specs.Step.{lowest, orBreak, lineOr, chosen, storedTo, markedTo, watchedBy, loadAct, storeAct, actOf, doneOf, actOut, actMem, actMarks, instrTurn, entryOut, turnOf, after};
+ghost use Rattle.machine.specs.Step.{lowest, orBreak, lineOr, chosen, storedTo, markedTo, watchedBy, loadAct, storeAct, actOf, doneOf, actOut, actMem, actMarks, instrTurn, entryOut, turnOf};
 ghost use Rattle.machine.specs.Run.{badLength, judge, stepsOf, runOf};
 use cpu::Control;
 use cpu::Effect;
@@ -530,27 +530,29 @@ fn act_turn(a: Act, x: Val, c: Control, m: &mut [u8], mk: &mut [u8]) -> Out
     }
 }
 
-fn instr_turn(i: Instr, s: State, m: &mut [u8], mk: &mut [u8]) -> Out
-    ensures { λ r. ⌜ r ≡ instrTurn i s (now (m .entry)) (now (mk .entry)) .out ⌝ }
-    ensures { λ _. ⌜ now (m .exit) ≡ instrTurn i s (now (m .entry)) (now (mk .entry)) .mem ⌝ }
-    ensures { λ _. ⌜ now (mk .exit) ≡ instrTurn i s (now (m .entry)) (now (mk .entry)) .marks ⌝ }
+fn instr_turn(
+    i: Instr,
+    regs: [u32; 16],
+    marks: [bool; 16],
+    flags: Flags,
+    c: Control,
+    m: &mut [u8],
+    mk: &mut [u8],
+) -> Out
+    ensures { λ r. ⌜ r ≡ instrTurn i (stateOf regs marks flags c) (now (m .entry)) (now (mk .entry)) .out ⌝ }
+    ensures { λ _. ⌜ now (m .exit) ≡ instrTurn i (stateOf regs marks flags c) (now (m .entry)) (now (mk .entry)) .mem ⌝ }
+    ensures { λ _. ⌜ now (mk .exit) ≡ instrTurn i (stateOf regs marks flags c) (now (m .entry)) (now (mk .entry)) .marks ⌝ }
 {
     let o = cpu::operands_of(i);
-    let regs = s.regs;
-    let marks = s.marks;
-    let flags = s.flags;
-    let c = s.control;
     let x = value_at(regs, marks, o.first);
     let y = value_at(regs, marks, o.second);
     let a = act_on(i, x, y, flags, c, m, mk);
     act_turn(a, x, c, m, mk)
 }
 
-fn enter(e: Control, s: State) -> Out
-    ensures { λ r. ⌜ r ≡ entryOut e s ⌝ }
+fn enter(e: Control, flags: Flags, c: Control) -> Out
+    ensures { λ r. ⌜ r ≡ entryOut e flags c ⌝ }
 {
-    let flags = s.flags;
-    let c = s.control;
     Out::Go(Done {
         control: cpu::fall(word::is_on(c.psw, 4), e),
         flags,
@@ -560,39 +562,31 @@ fn enter(e: Control, s: State) -> Out
     })
 }
 
-fn turn(t: u32, s: State, m: &mut [u8], mk: &mut [u8]) -> Out
-    ensures { λ r. ⌜ r ≡ turnOf t s (now (m .entry)) (now (mk .entry)) .out ⌝ }
-    ensures { λ _. ⌜ now (m .exit) ≡ turnOf t s (now (m .entry)) (now (mk .entry)) .mem ⌝ }
-    ensures { λ _. ⌜ now (mk .exit) ≡ turnOf t s (now (m .entry)) (now (mk .entry)) .marks ⌝ }
+fn turn(
+    t: u32,
+    regs: [u32; 16],
+    marks: [bool; 16],
+    flags: Flags,
+    c: Control,
+    m: &mut [u8],
+    mk: &mut [u8],
+) -> Out
+    ensures { λ r. ⌜ r ≡ turnOf t (stateOf regs marks flags c) (now (m .entry)) (now (mk .entry)) .out ⌝ }
+    ensures { λ _. ⌜ now (m .exit) ≡ turnOf t (stateOf regs marks flags c) (now (m .entry)) (now (mk .entry)) .mem ⌝ }
+    ensures { λ _. ⌜ now (mk .exit) ≡ turnOf t (stateOf regs marks flags c) (now (m .entry)) (now (mk .entry)) .marks ⌝ }
 {
-    let c = s.control;
     let e = choose(t, c);
     match e {
-        Event::Timer => enter(cpu::enter_timer(c), s),
-        Event::Line(i) => enter(cpu::enter_external(i, c), s),
-        Event::Break => enter(cpu::enter_debug(1, c), s),
+        Event::Timer => enter(cpu::enter_timer(c), flags, c),
+        Event::Line(i) => enter(cpu::enter_external(i, c), flags, c),
+        Event::Break => enter(cpu::enter_debug(1, c), flags, c),
         Event::Instruction => {
             let f = fetch(c.pc, m, mk);
             match f {
                 Fetched::Stop(r) => Out::Stop(r),
-                Fetched::Run(i) => instr_turn(i, s, m, mk),
+                Fetched::Run(i) => instr_turn(i, regs, marks, flags, c, m, mk),
             }
         }
-    }
-}
-
-fn apply(d: Done, s: State) -> State
-    ensures { λ r. ⌜ r ≡ after d s ⌝ }
-{
-    let regs = s.regs;
-    let marks = s.marks;
-    let flags = d.flags;
-    let control = d.control;
-    State {
-        regs: put_value(regs, d.reg, d.value),
-        marks: put_mark(marks, d.reg, d.mark),
-        flags,
-        control,
     }
 }
 
@@ -660,12 +654,21 @@ fn steps(b: usize, t: &[u8], s: State, m: &mut [u8], k: &mut [u8]) -> Ended
     ensures { λ _. ⌜ now (m .exit) ≡ stepsOf b 0 (now (t .entry)) s (now (m .entry)) (now (k .entry)) .mem ⌝ }
     ensures { λ _. ⌜ now (k .exit) ≡ stepsOf b 0 (now (t .entry)) s (now (m .entry)) (now (k .entry)) .marks ⌝ }
 {
-    let mut state = s;
+    let mut regs = s.regs;
+    let mut marks = s.marks;
+    let mut flags = s.flags;
+    let mut control = s.control;
     let mut n: usize = 0;
     while n < b {
-        let out = turn(wide(t[n]), state, m, k);
+        let out = turn(wide(t[n]), regs, marks, flags, control, m, k);
         match out {
             Out::Stop(reply) => {
+                let state = State {
+                    regs,
+                    marks,
+                    flags,
+                    control,
+                };
                 return Ended {
                     state,
                     steps: n,
@@ -673,11 +676,24 @@ fn steps(b: usize, t: &[u8], s: State, m: &mut [u8], k: &mut [u8]) -> Ended
                 };
             }
             Out::Go(d) => {
-                state = apply(d, state);
+                let f = d.flags;
+                let c = d.control;
+                let values = put_value(regs, d.reg, d.value);
+                let tags = put_mark(marks, d.reg, d.mark);
+                regs = values;
+                marks = tags;
+                flags = f;
+                control = c;
                 n += 1;
             }
         }
     }
+    let state = State {
+        regs,
+        marks,
+        flags,
+        control,
+    };
     Ended {
         state,
         steps: n,

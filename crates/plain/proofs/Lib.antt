@@ -1,0 +1,4 @@
+pub mod Marks
+pub mod Same
+pub mod Never
+pub mod Theorems

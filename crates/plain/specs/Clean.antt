@@ -1,0 +1,30 @@
+-- Nothing marked, and a result of the machine without marks put beside marks, as a result of the machine with marks.
+-- Assumes nothing.
+use Prim.Native.Nat.{ℕ}
+use mathlib.Core.Path.{_≡_}
+use mathlib.Core.Bool.{false}
+use mathlib.Core.List.{List}
+use lib.ListN.{length, getD, replicate}
+use Rattle.machine.specs.Run.{Final, final}
+use Rattle.machine.specs.declared.State.{State}
+use Rattle.plain.specs.Plain.{Core, Result}
+
+-- the marks of state s and the mark slice k of memory m say that nothing is marked
+pub record Clean (s : State) (m k : List ℕ) : Type 0 where
+  pub bytes : (i : ℕ) → getD k i 0 ≡ 0
+  pub size : length k ≡ length m
+  pub regs : s .marks ≡ replicate 16 false
+  pub tf : s .flags .tf ≡ false
+  pub cy : s .flags .cy ≡ false
+
+-- the state without its marks
+abbrev pub coreOf : State → Core
+coreOf s = record { regs = s .regs; control = s .control }
+
+-- the reply, the steps, the state and the memory of r, with the marks of s and the mark slice k
+abbrev pub beside : Result → State → List ℕ → Final
+beside r s k =
+    final (r .reply) (r .steps)
+    (record { regs = r .core .regs; marks = s .marks; flags = s .flags; control = r .core .control })
+    (r .mem)
+    k

@@ -1,0 +1,147 @@
+-- The machine without marks: "a second definition by the same rules, with no mark in its state or its steps" (document 01, "Holding the statements to the
+-- machine"). The rules of values, entries and the choice of a step are those that the machine with marks uses too; none of them reads or makes a mark.
+-- What marks add there is not here: no mark slice, no marks of registers and flags, and of the replies none of 2, 3, 12 and 14. (anyAbove stands in crate
+-- marks, and speaks of any list of numbers.)
+-- Assumes nothing.
+use Prim.Native.Nat.{ℕ, zero, suc, _+_, _/_, _%_}
+use mathlib.Core.Bool.{cond, not, _&&_}
+use mathlib.Core.List.{List}
+use lib.Dec.{ltb, eqb}
+use lib.ListN.{length, getD, set, take}
+use Rattle.word.specs.Bits.{on}
+use Rattle.word.specs.Numbers.{wrap}
+use Rattle.word.specs.Bytes.{inside}
+use Rattle.isa.specs.Codes.{kindOf}
+use Rattle.isa.specs.Decode.{operandsOf as decoded}
+use Rattle.isa.specs.declared.Kind.{Kind}
+use Rattle.isa.specs.declared.Instr.{Instr}
+use Rattle.cpu.specs.Entries.{timerEntry, externalEntry, debugEntry, fallen}
+use Rattle.cpu.specs.Exec.{moves, exec, operandsOf, reachOf}
+use Rattle.cpu.specs.declared.Control.{Control}
+use Rattle.cpu.specs.declared.Effect.{Effect}
+use Rattle.cpu.specs.declared.Reach.{Reach}
+use Rattle.marks.specs.Memory.{anyAbove}
+use Rattle.machine.specs.State.{outOfForm}
+use Rattle.machine.specs.Fetch.{found, halfAt, isLongKind}
+use Rattle.machine.specs.Step.{chosen, outside, loadedFrom, storedTo, watchedBy}
+use Rattle.machine.specs.Run.{badLength}
+use Rattle.machine.specs.declared.Reply.{Reply}
+use Rattle.machine.specs.declared.Event.{Event}
+use Rattle.machine.specs.declared.Fetched.{Fetched}
+use Rattle.machine.specs.declared.Judged.{Judged}
+
+-- The state: "sixteen registers of 32 bits", and the control part, which is the program counter, PSW, SFR 1 to 10 and "timer pending". Memory stands beside it.
+pub record Core : Type 0 where
+  pub regs : List ℕ
+  pub control : Control
+
+-- a register's value
+abbrev pub valueOf : Core → ℕ → ℕ
+valueOf s i = getD (s .regs) i 0
+
+-- ---- the fetch: "first half outside, .., not an instruction, second half outside, .."
+
+-- the second half, at a, of a long jump
+unfoldable pub second : Kind → ℕ → ℕ → List ℕ → Fetched
+second k h a m = cond (not (inside m a 2)) (Fetched.Stop Reply.FetchOutside) (found (decoded k h (halfAt m a)))
+
+-- the first half is h, at a; what is no instruction answers 13 before a second half is looked at
+unfoldable pub rest : Kind → ℕ → ℕ → List ℕ → Fetched
+rest k h a m = cond (isLongKind k) (second k h (wrap (a + 2)) m) (found (decoded k h 0))
+
+-- "A program counter found odd inside a run answers 13, before all these"
+unfoldable pub fetch : ℕ → List ℕ → Fetched
+fetch a m =
+    cond (eqb (a % 2) 1) (Fetched.Stop Reply.NoInstruction)
+    (cond (not (inside m a 2)) (Fetched.Stop Reply.FetchOutside)
+    (rest (kindOf (halfAt m a / 256)) (halfAt m a) a m))
+
+-- ---- one step
+
+-- "the stopping step changes nothing", so a stop has a reply alone; a completed step has the state and the memory after it
+pub data Outcome : Type 0 where
+  stopped : Reply → Outcome
+  completed : Core → List ℕ → Outcome
+
+-- the state after an effect e that reaches memory at r: the register that it writes (16: none), its watchpoint, and the timer's fall, "if TE was 1 at its
+-- start" and TIMER was not written
+unfoldable pub changed : Core → Effect → Reach → Core
+changed s e r =
+    record {
+      regs = set (s .regs) (e .reg) (e .value);
+      control = fallen (on (s .control .psw) 4 && not (e .wrote)) (watchedBy r (e .control));
+    }
+
+-- an instruction whose operands have the values x and y, and which reaches memory at r: stop 15, "load or store outside memory", or all that it does
+unfoldable pub act : Instr → ℕ → ℕ → Reach → Core → List ℕ → Outcome
+act i x y r s m =
+    cond (outside r m) (stopped Reply.DataOutside)
+    (completed (changed s (exec i x y (loadedFrom r m) (s .control)) r) (storedTo r x m))
+
+-- its operands are read first
+unfoldable pub perform : Instr → Core → List ℕ → Outcome
+perform i s m =
+    act i
+    (valueOf s (operandsOf i .first))
+    (valueOf s (operandsOf i .second))
+    (reachOf i (valueOf s (operandsOf i .second)) (s .control))
+    s
+    m
+
+abbrev pub onFetched : Fetched → Core → List ℕ → Outcome
+onFetched (Fetched.Stop r) s m = stopped r
+onFetched (Fetched.Run i) s m = perform i s m
+
+-- an entry makes the control part c and reaches no register and no memory; the timer falls in this step too
+abbrev pub entered : Control → Core → List ℕ → Outcome
+entered c s m = completed (changed s (moves c) Reach.Nowhere) m
+
+-- what is chosen: timer, line, breakpoint or instruction (document 01, "One step", 1 to 3)
+abbrev pub onEvent : Event → Core → List ℕ → Outcome
+onEvent Event.Timer s m = entered (timerEntry (s .control)) s m
+onEvent (Event.Line i) s m = entered (externalEntry i (s .control)) s m
+onEvent Event.Break s m = entered (debugEntry 1 (s .control)) s m
+onEvent Event.Instruction s m = onFetched (fetch (s .control .pc) m) s m
+
+-- t is the tape's byte of this step
+unfoldable pub step : ℕ → Core → List ℕ → Outcome
+step t s m = onEvent (chosen t (s .control)) s m
+
+-- ---- the run
+
+-- what a run returns
+pub record Result : Type 0 where
+  pub reply : Reply
+  pub steps : ℕ
+  pub core : Core
+  pub mem : List ℕ
+
+abbrev pub result : Reply → ℕ → Core → List ℕ → Result
+result r n s m = record { reply = r; steps = n; core = s; mem = m }
+
+-- refusals 1, 4, 5 and 6, in this order; b is the budget, t the tape
+unfoldable pub refusal : ℕ → List ℕ → Core → List ℕ → Judged
+refusal b t s m =
+    cond (badLength (length m)) (Judged.Refused Reply.MemoryLength)
+    (cond (outOfForm (s .control)) (Judged.Refused Reply.Form)
+    (cond (ltb (length t) b) (Judged.Refused Reply.TapeLength)
+    (cond (anyAbove 63 (take b t)) (Judged.Refused Reply.TapeByte)
+    Judged.Good)))
+
+-- n steps are completed, in state s and memory m, and the next one has this outcome
+unfoldable pub goOn : (Core → List ℕ → Result) → ℕ → Core → List ℕ → Outcome → Result
+goOn further n s m (stopped r) = result r n s m
+goOn further n s m (completed u l) = further u l
+
+-- b more steps may be made; "10 before each step"
+unfoldable pub stepsFrom : ℕ → ℕ → List ℕ → Core → List ℕ → Result
+stepsFrom zero n t s m = result Reply.Budget n s m
+stepsFrom (suc b) n t s m = goOn (stepsFrom b (n + 1) t) n s m (step (getD t n 0) s m)
+
+-- "Replies 1 to 6 return steps 0 and leave state, memory .. as given"
+abbrev pub unlessRefused : Judged → ℕ → List ℕ → Core → List ℕ → Result
+unlessRefused (Judged.Refused r) b t s m = result r 0 s m
+unlessRefused Judged.Good b t s m = stepsFrom b 0 t s m
+
+unfoldable pub run : ℕ → List ℕ → Core → List ℕ → Result
+run b t s m = unlessRefused (refusal b t s m) b t s m

@@ -1,0 +1,1 @@
+// The machine without marks is a definition; nothing runs here.
