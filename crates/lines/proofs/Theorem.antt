@@ -1,7 +1,7 @@
 -- Document 01's sixteen lines hold: one statement, by computation over the table.
 -- Assumes nothing.
 use Prim.Native.Nat.{ℕ}
-use mathlib.Core.Path.{_≡_, refl}
+use mathlib.Core.Path.{_≡_}
 use mathlib.Core.List.{map}
 use native.Mathlib.Nat.{div-one}
 use Rattle.word.specs.Bits.{put}

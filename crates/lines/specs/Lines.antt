@@ -4,7 +4,6 @@
 use Prim.Native.Nat.{ℕ, _-_, _^_}
 use mathlib.Core.Bool.{Bool, true, false}
 use mathlib.Core.List.{List, [], _∷_}
-use Rattle.word.specs.Numbers.{carryOf, borrowOf}
 use Rattle.word.specs.declared.HalfDisp.{HalfDisp}
 use Rattle.word.specs.declared.Width.{Width}
 use Rattle.isa.specs.Decode.{decodeOf}

@@ -1,6 +1,6 @@
 -- The theorems of this crate, each with its statement; read this file alone with specs/. The proofs are in the files that it cites.
 -- Assumes nothing.
-use Prim.Native.Nat.{ℕ, _%_}
+use Prim.Native.Nat.{ℕ, _+_, _%_}
 use mathlib.Core.Path.{_≡_, refl, sym, _∙_}
 use mathlib.Core.Bool.{Bool, true, false, not, _&&_, _||_}
 use mathlib.Core.List.{List}
@@ -14,7 +14,7 @@ use Rattle.machine.specs.State.{valueAt, outOfForm}
 use Rattle.machine.specs.Form.{Form}
 use Rattle.machine.specs.Fetch.{fetchOf}
 use Rattle.machine.specs.Step.{chosen, actOf, actOut, actMem, actMarks, instrTurn, fetchTurn, eventTurn, turnOf}
-use Rattle.machine.specs.Run.{Final, final, judge, runOf}
+use Rattle.machine.specs.Run.{Final, final, stepsOf, judge, runOf}
 use Rattle.machine.specs.declared.State.{State}
 use Rattle.machine.specs.declared.Val.{Val}
 use Rattle.machine.specs.declared.Reply.{Reply}
@@ -24,7 +24,9 @@ use Rattle.machine.specs.declared.Act.{Act}
 use Rattle.machine.specs.declared.Out.{Out}
 use Rattle.machine.specs.declared.Judged.{Judged}
 use Rattle.machine.specs.declared.Ended.{Ended}
+use Rattle.machine.specs.Cut.{resume}
 use Rattle.machine.proofs.Keeps.{run-keeps}
+use Rattle.machine.proofs.Cut.{cut}
 
 -- 1. A refusal changes nothing and counts 0 steps.
 pub refusal-changes-nothing : (b : ℕ) (t : List ℕ) (s : State) (m k : List ℕ) (r : Reply)
@@ -93,3 +95,7 @@ run-stays-in-form b t s m k e = run-keeps b t s m k (in-form (s .control) e)
 pub run-determined : (z : Final) (e f : Ended) (m n k l : List ℕ) → (e ≡ z .ended) × (m ≡ z .mem) × (k ≡ z .marks)
     → (f ≡ z .ended) × (n ≡ z .mem) × (l ≡ z .marks) → (e ≡ f) × (m ≡ n) × (k ≡ l)
 run-determined z e f m n k l p q = (p .0 ∙ sym (q .0), p .1 ∙ sym (q .1), p .2 ∙ sym (q .2))
+
+-- 5. A run of a + b steps is a run of a steps, and then of b from what that left; a run that stopped stays as it is.
+pub a-cut-run : (a b : ℕ) (t : List ℕ) (s : State) (m k : List ℕ) → stepsOf (a + b) 0 t s m k ≡ resume b t (stepsOf a 0 t s m k)
+a-cut-run a b t s m k = cut a b 0 t s m k

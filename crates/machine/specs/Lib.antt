@@ -4,3 +4,4 @@ pub mod Step
 pub mod Run
 pub mod Trace
 pub mod Form
+pub mod Cut

@@ -1,14 +1,7 @@
-use borrow.Author.Tests.{lt-ltb, le-ltb, le-leb, lt-leb, eq-eqb, ne-eqb}
 use Rattle.machine.specs.Step.{instrTurn}
 use borrow.Author.Needs.{needs}
 use Rattle.machine.proofs.instr_turn.Statement.{statement}
 use Rattle.machine.proofs.instr_turn.Tie as tie
-use Rattle.machine.proofs.instr_turn.Reads as reads
-use Rattle.machine.proofs.instr_turn.Lts as lts
-use Rattle.cpu.proofs.operands_of.Reads as operands-of-reads
-use Rattle.machine.proofs.act_on.Reads as act-on-reads
-use Rattle.machine.proofs.act_turn.Reads as act-turn-reads
-use Rattle.machine.proofs.value_at.Reads as value-at-reads
 
 operands-of-requires : tie.Need-operands-of-requires
 operands-of-requires c κs = search needs

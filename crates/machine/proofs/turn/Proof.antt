@@ -1,18 +1,8 @@
-use mathlib.Core.Path.{_≡_, refl, sym, ap, subst, _∙_}
-use borrow.Author.Tests.{lt-ltb, le-ltb, le-leb, lt-leb, eq-eqb, ne-eqb}
+use mathlib.Core.Path.{refl}
 use Rattle.machine.specs.Step.{turnOf}
 use borrow.Author.Needs.{needs}
 use Rattle.machine.proofs.turn.Statement.{statement}
 use Rattle.machine.proofs.turn.Tie as tie
-use Rattle.machine.proofs.turn.Reads as reads
-use Rattle.machine.proofs.turn.Lts as lts
-use Rattle.cpu.proofs.enter_debug.Reads as enter-debug-reads
-use Rattle.cpu.proofs.enter_external.Reads as enter-external-reads
-use Rattle.cpu.proofs.enter_timer.Reads as enter-timer-reads
-use Rattle.machine.proofs.choose.Reads as choose-reads
-use Rattle.machine.proofs.enter.Reads as enter-reads
-use Rattle.machine.proofs.fetch.Reads as fetch-reads
-use Rattle.machine.proofs.instr_turn.Reads as instr-turn-reads
 
 choose-requires : tie.Need-choose-requires
 choose-requires c κs = search needs
