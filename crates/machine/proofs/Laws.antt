@@ -9,9 +9,15 @@ use lib.Dec.{ltb, eqb}
 use lib.ListN.{length, getD, take}
 use borrow.Author.Tests.{eqb-true, ltb-false}
 use Rattle.word.specs.Bits.{on, fieldOf}
-use Rattle.word.specs.Bytes.{inside, load, loadOf}
+use Rattle.word.specs.Bytes.{inside, load, loadOf, anyOf}
 use Rattle.word.specs.declared.Width.{Width}
 use Rattle.word.proofs.Memory.{load-none, load-more, byte-more}
+use Rattle.word.specs.Numbers.{wrap}
+use Rattle.isa.specs.Decode.{operandsOf}
+use Rattle.isa.specs.declared.Kind.{Kind}
+use Rattle.machine.specs.Fetch.{found, halfAt, isLongKind, secondOf, secondHalf, restOf}
+use Rattle.machine.specs.declared.Fetched.{Fetched}
+use Rattle.machine.specs.declared.Second.{Second}
 use Rattle.isa.proofs.Rows.{and-left, and-right}
 use Rattle.cpu.specs.Entries.{isBreak}
 use Rattle.cpu.specs.declared.Control.{Control}
@@ -132,3 +138,22 @@ long-tape b t s m k e =
     let b3 : four ≡ Judged.Good = passes (badMark k) Reply.MarkByte four b2 .1 in
     let b4 : five ≡ Judged.Good = passes (outOfForm (s .control)) Reply.Form five b3 .1 in
     ltb-false (length t) b (passes (ltb (length t) b) Reply.TapeLength six b4 .0)
+
+-- a fetch by its second half
+abbrev bySecond : Second → Kind → ℕ → Fetched
+bySecond (Second.Stop r) k h = Fetched.Stop r
+bySecond (Second.Half x) k h = found (operandsOf k h x)
+
+pub rest-by-second : (k : Kind) (h a : ℕ) (m mk : List ℕ) (x : Second) → x ≡ secondHalf k (wrap (a + 2)) m mk
+    → bySecond x k h ≡ restOf k h a m mk
+unfolding restOf secondOf secondHalf
+rest-by-second k h a m mk x e =
+    ap (λ (y : Second). bySecond y k h) e ∙ go (isLongKind k) (not (inside m (wrap (a + 2)) 2)) (anyOf Width.Half mk (wrap (a + 2)))
+  where
+    go : (l i n : Bool)
+        → bySecond (cond l (cond i (Second.Stop Reply.FetchOutside) (cond n (Second.Stop Reply.FetchMarked) (Second.Half (halfAt m (wrap (a + 2)))))) (Second.Half 0)) k h
+        ≡ cond l (cond i (Fetched.Stop Reply.FetchOutside) (cond n (Fetched.Stop Reply.FetchMarked) (found (operandsOf k h (halfAt m (wrap (a + 2))))))) (found (operandsOf k h 0))
+    go true true n = refl
+    go true false true = refl
+    go true false false = refl
+    go false i n = refl

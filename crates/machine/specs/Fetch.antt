@@ -14,6 +14,7 @@ use Rattle.isa.specs.declared.Kind.{Kind}
 use Rattle.isa.specs.declared.Decoded.{Decoded}
 use Rattle.machine.specs.declared.Reply.{Reply}
 use Rattle.machine.specs.declared.Fetched.{Fetched}
+use Rattle.machine.specs.declared.Second.{Second}
 
 abbrev pub found : Decoded → Fetched
 found (Decoded.Short i) = Fetched.Run i
@@ -52,6 +53,14 @@ isLongKind Kind.Jsfr = false
 isLongKind Kind.Swint = false
 isLongKind (Kind.ShortJump op) = false
 isLongKind (Kind.LongJump op) = true
+
+-- the same as a half or its stop: 0 for the kinds of two bytes
+unfoldable pub secondHalf : Kind → ℕ → List ℕ → List ℕ → Second
+secondHalf k a m mk =
+    cond (isLongKind k)
+    (cond (not (inside m a 2)) (Second.Stop Reply.FetchOutside)
+    (cond (anyOf Width.Half mk a) (Second.Stop Reply.FetchMarked) (Second.Half (halfAt m a))))
+    (Second.Half 0)
 
 -- the first half is h, at a; a kind that is no instruction answers 13 before the second half is looked at
 unfoldable pub restOf : Kind → ℕ → ℕ → List ℕ → List ℕ → Fetched

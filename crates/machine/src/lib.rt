@@ -11,7 +11,7 @@ ghost use Rattle.cpu.specs.Entries.{watched};
 ghost use Rattle.cpu.specs.declared.Reach.{Reach};
 ghost use Rattle.marks.specs.Marks.{with};
 ghost use Rattle.machine.specs.State.{numberOf, freshState, stateOf, outOfForm};
-ghost use Rattle.machine.specs.Fetch.{found, halfAt, secondOf, isLongKind, restOf, fetchOf};
+ghost use Rattle.machine.specs.Fetch.{found, halfAt, secondHalf, isLongKind, restOf, fetchOf};
 ghost use Rattle.machine.specs.Step.{lowest, orBreak, lineOr, chosen, storedTo, markedTo, watchedBy, loadAct, storeAct, actOf, doneOf, actOut, actMem, actMarks, instrTurn, entryOut, turnOf};
 ghost use Rattle.machine.specs.Run.{badLength, judge, stepsOf, runOf};
 use cpu::Control;
@@ -65,6 +65,11 @@ pub enum Event {
 pub enum Fetched {
     Stop(Reply),
     Run(Instr),
+}
+
+pub enum Second {
+    Stop(Reply),
+    Half(u16),
 }
 
 // One instruction: it stops, or has an effect, marks, and a place in memory.
@@ -231,25 +236,30 @@ fn is_long(k: Kind) -> bool
     }
 }
 
-fn second_at(k: Kind, first: u16, at: u32, m: &[u8], mk: &[u8]) -> Fetched
-    ensures { λ r. ⌜ r ≡ secondOf k first at (now (m .entry)) (now (mk .entry)) ⌝ }
+// The second half of a long jump, 0 for any other kind. One place reads operands, so that the compiler lays it into the loop.
+fn second_half(k: Kind, at: u32, m: &[u8], mk: &[u8]) -> Second
+    ensures { λ r. ⌜ r ≡ secondHalf k at (now (m .entry)) (now (mk .entry)) ⌝ }
 {
-    if is_inside(m, at, 2) {
-        if word::has_any(Width::Half, mk, ByteAddr(at)) {
-            return Fetched::Stop(Reply::FetchMarked);
+    if is_long(k) {
+        if is_inside(m, at, 2) {
+            if word::has_any(Width::Half, mk, ByteAddr(at)) {
+                return Second::Stop(Reply::FetchMarked);
+            }
+            return Second::Half(half_at(m, at));
         }
-        return found_in(isa::operands(k, first, half_at(m, at)));
+        return Second::Stop(Reply::FetchOutside);
     }
-    Fetched::Stop(Reply::FetchOutside)
+    Second::Half(0)
 }
 
 fn rest_at(k: Kind, first: u16, at: u32, m: &[u8], mk: &[u8]) -> Fetched
     ensures { λ r. ⌜ r ≡ restOf k first at (now (m .entry)) (now (mk .entry)) ⌝ }
 {
-    if is_long(k) {
-        return second_at(k, first, std::num::wrapping_add_u32(at, 2), m, mk);
+    let s = second_half(k, std::num::wrapping_add_u32(at, 2), m, mk);
+    match s {
+        Second::Stop(r) => Fetched::Stop(r),
+        Second::Half(second) => found_in(isa::operands(k, first, second)),
     }
-    found_in(isa::operands(k, first, 0))
 }
 
 fn fetch(at: u32, m: &[u8], mk: &[u8]) -> Fetched
