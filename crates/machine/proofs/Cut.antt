@@ -21,12 +21,12 @@ use Rattle.cpu.specs.Exec as cpu
 use Rattle.cpu.specs.declared.Control.{Control}
 use Rattle.cpu.specs.declared.Effect.{Effect}
 use Rattle.cpu.specs.declared.Reach.{Reach}
-use Rattle.marks.specs.Marks.{taint, blocked}
+use Rattle.marks.specs.Marks.{taint}
 use Rattle.marks.specs.declared.Flags.{Flags}
 use Rattle.marks.specs.declared.Taint.{Taint}
 use Rattle.machine.specs.State.{numberOf, valueAt}
 use Rattle.machine.specs.Fetch.{found, halfAt, secondOf, isLongKind, restOf, fetchOf}
-use Rattle.machine.specs.Step.{chosen, outside, loadedFrom, loadedMark, actOf, actOut, instrTurn, fetchTurn, eventTurn, turnOf, after}
+use Rattle.machine.specs.Step.{chosen, outside, loadedFrom, loadedMark, operandMarked, actOf, actOut, instrTurn, fetchTurn, eventTurn, turnOf, after}
 use Rattle.machine.specs.Run.{Final, goOn, stepsOf}
 use Rattle.machine.specs.Cut.{resume}
 use Rattle.machine.specs.declared.State.{State}
@@ -91,7 +91,7 @@ acts-ok : (i : Instr) (x y : Val) (f : Flags) (c : Control) (m k : List ℕ) →
 unfolding actOf
 acts-ok i x y f c m k =
     let r : Reach = reachOf i (y .value) c in
-    act-ok (blocked i (y .mark) f) (outside r m) (exec i (x .value) (y .value) (loadedFrom r m) c)
+    act-ok (operandMarked i y f) (outside r m) (exec i (x .value) (y .value) (loadedFrom r m) c)
     (taint i (x .mark) (y .mark) (loadedMark r k) (tf c) f) r c
 
 turn-by : (x : Fetched) (s : State) (m k : List ℕ) → FetchOk x → OutOk (fetchTurn x s m k .out)

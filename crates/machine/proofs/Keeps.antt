@@ -24,13 +24,13 @@ use Rattle.cpu.specs.declared.Control.{Control}
 use Rattle.cpu.specs.Exec.{operandsOf, reachOf}
 use Rattle.cpu.specs.declared.Effect.{Effect}
 use Rattle.cpu.specs.declared.Reach.{Reach}
-use Rattle.marks.specs.Marks.{taint, blocked}
+use Rattle.marks.specs.Marks.{taint}
 use Rattle.marks.specs.declared.Flags.{Flags}
 use Rattle.marks.specs.declared.Taint.{Taint}
 use Rattle.machine.specs.Form.{Form}
 use Rattle.machine.specs.State.{valueAt}
 use Rattle.machine.specs.Fetch.{fetchOf}
-use Rattle.machine.specs.Step.{chosen, outside, watchedBy, loadedFrom, loadedMark, actOf, doneOf, actOut, instrTurn, fetchTurn, eventTurn, turnOf, after}
+use Rattle.machine.specs.Step.{chosen, outside, watchedBy, loadedFrom, loadedMark, operandMarked, actOf, doneOf, actOut, instrTurn, fetchTurn, eventTurn, turnOf, after}
 use Rattle.machine.specs.Run.{Final, goOn, stepsOf, judge, judged, runOf}
 use Rattle.machine.specs.declared.State.{State}
 use Rattle.machine.specs.declared.Val.{Val}
@@ -337,7 +337,7 @@ acts : (i : Instr) (x y : Val) (f : Flags) (c : Control) (m k : List ℕ) → Fo
 unfolding actOf
 acts i x y f c m k g =
     let r : Reach = reachOf i (y .value) c in
-    acted (blocked i (y .mark) f) (outside r m) Reply.MarkedOperand Reply.DataOutside
+    acted (operandMarked i y f) (outside r m) Reply.MarkedOperand Reply.DataOutside
     (exec i (x .value) (y .value) (loadedFrom r m) c)
     (taint i (x .mark) (y .mark) (loadedMark r k) (tf c) f)
     r

@@ -87,10 +87,14 @@ watchedBy (Reach.Writes w a) c = watched (a .0) c
 
 -- ---- one instruction
 
+-- "operand marked": y is the base, the target or the source that the rules test
+abbrev pub operandMarked : Instr → Val → Flags → Bool
+operandMarked i y f = blocked i (y .mark) f
+
 -- what it does, with x and y its operands: "operand marked, data outside"
 unfoldable pub actOf : Instr → Val → Val → Flags → Control → List ℕ → List ℕ → Act
 actOf i x y f c m k =
-    cond (blocked i (y .mark) f) (Act.Stop Reply.MarkedOperand)
+    cond (operandMarked i y f) (Act.Stop Reply.MarkedOperand)
     (cond (outside (reachOf i (y .value) c) m) (Act.Stop Reply.DataOutside)
     (Act.Does (exec i (x .value) (y .value) (loadedFrom (reachOf i (y .value) c) m) c)
     (taint i (x .mark) (y .mark) (loadedMark (reachOf i (y .value) c) k) (tf c) f)
