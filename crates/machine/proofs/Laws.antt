@@ -2,12 +2,14 @@
 -- Assumes nothing.
 use Prim.Native.Nat.{ℕ, suc, _+_, _*_, _-_, _/_, _%_, _^_, _<_, _≤_}
 use mathlib.Core.Path.{_≡_, refl, sym, ap, subst, _∙_}
-use mathlib.Core.Bool.{Bool, true, false, cond, not, _&&_}
+use mathlib.Core.Bool.{Bool, true, false, cond, not, _&&_, Bool·beq}
+use mathlib.Core.Logic.{_≢_}
 use mathlib.Core.List.{List}
 use native.Mathlib.Omega.{arith}
 use lib.Dec.{ltb, eqb}
-use lib.ListN.{length, getD, take}
-use borrow.Author.Tests.{eqb-true, ltb-false}
+use lib.ListN.{length, getD, set, take}
+use lib.Seq.{set-getD, set-out}
+use borrow.Author.Tests.{eqb-true, eqb-false, ltb-true, ltb-false, lt-ltb, le-ltb}
 use Rattle.word.specs.Bits.{on, fieldOf}
 use Rattle.word.specs.Bytes.{inside, load, loadOf, anyOf}
 use Rattle.word.specs.declared.Width.{Width}
@@ -22,9 +24,9 @@ use Rattle.isa.proofs.Rows.{and-left, and-right}
 use Rattle.cpu.specs.Entries.{isBreak}
 use Rattle.cpu.specs.declared.Control.{Control}
 use Rattle.marks.specs.Memory.{anyAbove, badMark}
-use Rattle.machine.specs.State.{outOfForm}
+use Rattle.machine.specs.State.{stateOf, outOfForm}
 use Rattle.machine.specs.Step.{lowest, chosen, turnOf, after}
-use Rattle.machine.specs.Run.{final, goOn, stepsOf, judge, badLength}
+use Rattle.machine.specs.Run.{Final, final, goOn, stepsOf, judge, badLength}
 use Rattle.machine.specs.declared.State.{State}
 use Rattle.machine.specs.declared.Reply.{Reply}
 use Rattle.machine.specs.declared.Judged.{Judged}
@@ -46,6 +48,54 @@ half-lt m a h = go (inside m a 2)
     go : (t : Bool) → cond t (load 2 m a) 0 < 65536
     go true = two
     go false = omega arith
+
+-- registers of which the first j places have been looked at, to put v at place i
+module _ (regs : List ℕ) (i v : ℕ) where
+  abbrev pub upTo : ℕ → List ℕ
+  upTo j = cond (ltb i j) (set regs i v) regs
+
+  pub upTo-none : regs ≡ upTo 0
+  upTo-none = sym (ap (λ (t : Bool). cond t (set regs i v) regs) (le-ltb i 0 (omega arith)))
+
+  keeps : (j : ℕ) → eqb j i ≡ false → ltb i j ≡ ltb i (j + 1)
+  keeps j e = go (ltb i j) refl
+    where
+      go : (t : Bool) → ltb i j ≡ t → ltb i j ≡ ltb i (j + 1)
+      go true l =
+          let h : i < j = ltb-true i j l in
+          l ∙ sym (lt-ltb i (j + 1) (omega arith))
+      go false l =
+          let h : j ≤ i = ltb-false i j l in
+          let k : j ≢ i = eqb-false j i e in
+          l ∙ sym (le-ltb i (j + 1) (omega arith))
+
+  pub upTo-next : (j : ℕ) → set (upTo j) j (cond (eqb j i) v (getD (upTo j) j 0)) ≡ upTo (j + 1)
+  upTo-next j = go (eqb j i) refl
+    where
+      go : (t : Bool) → eqb j i ≡ t → set (upTo j) j (cond t v (getD (upTo j) j 0)) ≡ upTo (j + 1)
+      go true e =
+          let h : j ≡ i = eqb-true j i e in
+          rw (le-ltb i j (omega arith), lt-ltb i (j + 1) (omega arith), h)
+      go false e = set-getD (upTo j) j 0 ∙ ap (λ (t : Bool). cond t (set regs i v) regs) (keeps j e)
+
+  pub upTo-all : length regs ≡ 16 → upTo 16 ≡ set regs i v
+  upTo-all n = go (ltb i 16) refl
+    where
+      go : (t : Bool) → ltb i 16 ≡ t → cond t (set regs i v) regs ≡ set regs i v
+      go true l = refl
+      go false l =
+          let h : 16 ≤ i = ltb-false i 16 l in
+          sym (set-out regs i v (omega arith))
+
+beq-true : (a b : Bool) → Bool·beq a b ≡ true → a ≡ b
+beq-true true true e = refl
+beq-true true false e = sym e
+beq-true false true e = e
+beq-true false false e = refl
+
+-- a mark that is there already
+pub mark-stays : (marks : List Bool) (i : ℕ) (m : Bool) → Bool·beq (getD marks i false) m ≡ true → set marks i m ≡ marks
+mark-stays marks i m e = ap (set marks i) (sym (beq-true (getD marks i false) m e)) ∙ set-getD marks i false
 
 -- one more line looked at, and none left
 pub lowest-more : (i t p : ℕ) → i < 6 → lowest (6 - i) i t p ≡ cond (on t i && on p (20 + i)) i (lowest (6 - (i + 1)) (i + 1) t p)
@@ -106,6 +156,17 @@ module _ (b n : ℕ) (t : List ℕ) (s : State) (m k : List ℕ) where
   steps-go d h o =
       let e : b - n ≡ suc (b - (n + 1)) = omega arith in
       rw (e, o)
+
+  -- the same of a state in its parts, as the loop has them
+  pub steps-next : (d : Done) (f : Final) (regs : List ℕ) (tags : List Bool) (m′ k′ : List ℕ) → n < b
+      → turnOf (getD t n 0) s m k .out ≡ Out.Go d
+      → regs ≡ set (s .regs) (d .reg) (d .value)
+      → tags ≡ set (s .marks) (d .reg) (d .mark)
+      → (m′ ≡ turnOf (getD t n 0) s m k .mem) × (k′ ≡ turnOf (getD t n 0) s m k .marks)
+      → stepsOf (b - n) n t s m k ≡ f
+      → stepsOf (b - (n + 1)) (n + 1) t (stateOf regs tags (d .flags) (d .control)) m′ k′ ≡ f
+  unfolding after
+  steps-next d f regs tags m′ k′ h o v w g e = rw (v, w, g .0, g .1) (sym (steps-go d h o) ∙ e)
 
   pub steps-stop : (r : Reply) → n < b → turnOf (getD t n 0) s m k .out ≡ Out.Stop r
       → stepsOf (b - n) n t s m k ≡ final r n s (turnOf (getD t n 0) s m k .mem) (turnOf (getD t n 0) s m k .marks)

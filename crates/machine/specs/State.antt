@@ -35,8 +35,11 @@ abbrev pub stateOf : List ℕ → List Bool → Flags → Control → State
 stateOf regs marks f c = record { regs = regs; marks = marks; flags = f; control = c }
 
 -- a register's value and mark
+abbrev pub valueIn : List ℕ → List Bool → ℕ → Val
+valueIn regs marks i = record { value = getD regs i 0; mark = getD marks i false }
+
 abbrev pub valueAt : State → ℕ → Val
-valueAt s i = record { value = getD (s .regs) i 0; mark = getD (s .marks) i false }
+valueAt s i = valueIn (s .regs) (s .marks) i
 
 -- refusal 4, "state out of form: odd program counter; PSW bit 12 set; HWDBG bits 0, 1 not both set or a bit of 9 to 31 set; timer pending with TIMER
 -- not 0"

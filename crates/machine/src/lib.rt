@@ -10,7 +10,7 @@ ghost use Rattle.word.specs.declared.Width.{Width};
 ghost use Rattle.cpu.specs.Entries.{watched};
 ghost use Rattle.cpu.specs.declared.Reach.{Reach};
 ghost use Rattle.marks.specs.Marks.{with};
-ghost use Rattle.machine.specs.State.{numberOf, freshState, stateOf, outOfForm};
+ghost use Rattle.machine.specs.State.{numberOf, freshState, stateOf, valueIn, outOfForm};
 ghost use Rattle.machine.specs.Fetch.{found, halfAt, secondHalf, isLongKind, restOf, fetchOf};
 ghost use Rattle.machine.specs.Step.{lowest, orBreak, lineOr, chosen, storedTo, markedTo, watchedBy, loadAct, storeAct, actOf, doneOf, actOut, actMem, actMarks, instrTurn, entryOut, turnOf};
 ghost use Rattle.machine.specs.Run.{badLength, judge, stepsOf, runOf};
@@ -37,6 +37,12 @@ pub struct State {
 pub struct Val {
     pub value: u32,
     pub mark: bool,
+}
+
+// What an instruction reads of the registers.
+pub struct Sources {
+    pub first: Val,
+    pub second: Val,
 }
 
 pub enum Reply {
@@ -144,9 +150,9 @@ fn both(a: bool, b: bool) -> bool
     if a { b } else { false }
 }
 
-// A register's value and mark, and registers with one of them replaced; there are sixteen.
+// A register's value and mark; there are sixteen.
 fn value_at(regs: [u32; 16], marks: [bool; 16], i: u32) -> Val
-    ensures { λ r. ⌜ r ≡ record { value = getD regs i 0; mark = getD marks i false } ⌝ }
+    ensures { λ r. ⌜ r ≡ valueIn regs marks i ⌝ }
 {
     if i < 16 {
         let k = i as usize;
@@ -161,16 +167,50 @@ fn value_at(regs: [u32; 16], marks: [bool; 16], i: u32) -> Val
     }
 }
 
+// Both sources in one place, so that the compiler copies no array for them.
+fn read(regs: [u32; 16], marks: [bool; 16], a: u32, b: u32) -> Sources
+    ensures { λ r. ⌜ r ≡ record { first = valueIn regs marks a; second = valueIn regs marks b } ⌝ }
+{
+    if a < 16 {
+        if b < 16 {
+            let i = a as usize;
+            let j = b as usize;
+            return Sources {
+                first: Val {
+                    value: regs[i],
+                    mark: marks[i],
+                },
+                second: Val {
+                    value: regs[j],
+                    mark: marks[j],
+                },
+            };
+        }
+    }
+    Sources {
+        first: value_at(regs, marks, a),
+        second: value_at(regs, marks, b),
+    }
+}
+
+fn pick(t: bool, v: u32, x: u32) -> u32
+    ensures { λ r. ⌜ r ≡ cond t v x ⌝ }
+{
+    if t { v } else { x }
+}
+
+// Registers with one of them replaced. Each place is chosen, not indexed: the compiler keeps the array in vector registers.
 fn put_value(regs: [u32; 16], i: u32, v: u32) -> [u32; 16]
     ensures { λ r. ⌜ r ≡ set regs i v ⌝ }
 {
-    if i < 16 {
-        let mut n = regs;
-        let k = i as usize;
-        n[k] = v;
-        return n;
+    let mut made = regs;
+    let mut j: u32 = 0;
+    while j < 16 {
+        let k = j as usize;
+        made[k] = pick(j == i, v, made[k]);
+        j += 1;
     }
-    regs
+    made
 }
 
 fn put_mark(marks: [bool; 16], i: u32, m: bool) -> [bool; 16]
@@ -554,8 +594,9 @@ fn instr_turn(
     ensures { λ _. ⌜ now (mk .exit) ≡ instrTurn i (stateOf regs marks flags c) (now (m .entry)) (now (mk .entry)) .marks ⌝ }
 {
     let o = cpu::operands_of(i);
-    let x = value_at(regs, marks, o.first);
-    let y = value_at(regs, marks, o.second);
+    let r = read(regs, marks, o.first, o.second);
+    let x = r.first;
+    let y = r.second;
     let a = act_on(i, x, y, flags, c, m, mk);
     act_turn(a, x, c, m, mk)
 }
@@ -689,12 +730,23 @@ fn steps(b: usize, t: &[u8], s: State, m: &mut [u8], k: &mut [u8]) -> Ended
                 let f = d.flags;
                 let c = d.control;
                 let values = put_value(regs, d.reg, d.value);
-                let tags = put_mark(marks, d.reg, d.mark);
                 regs = values;
-                marks = tags;
                 flags = f;
                 control = c;
-                n += 1;
+                if d.reg < 16 {
+                    let i = d.reg as usize;
+                    let was = marks[i];
+                    // Most marks stay, and then their array is not copied.
+                    if marks::same(was, d.mark) {
+                        n += 1;
+                    } else {
+                        let tags = put_mark(marks, d.reg, d.mark);
+                        marks = tags;
+                        n += 1;
+                    }
+                } else {
+                    n += 1;
+                }
             }
         }
     }

@@ -100,7 +100,7 @@ fn cond_sources(op: CondOp, mx: bool, my: bool) -> bool
     }
 }
 
-fn same(a: bool, b: bool) -> bool
+pub fn same(a: bool, b: bool) -> bool
     ensures { λ r. ⌜ r ≡ Bool·beq a b ⌝ }
 {
     if a { b } else { !b }

@@ -1,3 +1,4 @@
+use borrow.Author.Tests.{lt-ltb, le-ltb, le-leb, lt-leb, eq-eqb, ne-eqb}
 use Rattle.machine.specs.Step.{instrTurn}
 use borrow.Author.Needs.{needs}
 use Rattle.machine.proofs.instr_turn.Statement.{statement}
@@ -6,11 +7,8 @@ use Rattle.machine.proofs.instr_turn.Tie as tie
 operands-of-requires : tie.Need-operands-of-requires
 operands-of-requires c κs = search needs
 
-value-at-requires : tie.Need-value-at-requires
-value-at-requires c κs = search needs
-
-value-at-requires-2 : tie.Need-value-at-requires-2
-value-at-requires-2 c κs = search needs
+read-requires : tie.Need-read-requires
+read-requires c κs = search needs
 
 act-on-requires : tie.Need-act-on-requires
 act-on-requires c κs = search needs
@@ -26,15 +24,14 @@ same-length-2 c = search needs
 
 returns : tie.Need-returns
 unfolding instrTurn
-returns c = rw (c .before .before .before .before .before .before .before .act-on .ensures, c .before .before .before .before .before .before .before .before .before .before .value-at2 .ensures, c .before .before .before .before .before .before .before .before .before .before .before .value-at .ensures, c .before .before .before .before .before .before .before .before .before .before .before .before .operands-of .ensures) at (c .before .before .before .before .act-turn .ensures)
+returns c = rw (c .before .before .before .before .before .before .before .act-on .ensures, c .before .before .before .before .before .before .before .before .before .before .before .before .read .ensures, c .before .before .before .before .before .before .before .before .before .before .before .before .before .operands-of .ensures) at (c .before .before .before .before .act-turn .ensures)
 
 pub instr-turn-spec : {M : Type 1} → statement M
 instr-turn-spec =
     tie.close
     (tie.spec
     operands-of-requires
-    value-at-requires
-    value-at-requires-2
+    read-requires
     act-on-requires
     act-turn-requires
     same-length
