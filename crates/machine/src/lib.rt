@@ -430,24 +430,43 @@ fn bytes(w: Width) -> u32
     }
 }
 
-fn load_at(w: Width, at: ByteAddr, d: u32, f: Flags, c: Control, m: &[u8], mk: &[u8]) -> Act
-    ensures { λ r. ⌜ r ≡ loadAct w at d f c (now (m .entry)) (now (mk .entry)) ⌝ }
+// "operand marked, data outside": a marked base stops before its address does.
+fn stop_outside(marked: bool) -> Act
+    ensures { λ r. ⌜ r ≡ cond marked (Act.Stop Reply.MarkedOperand) (Act.Stop Reply.DataOutside) ⌝ }
+{
+    stop_if(marked, Act::Stop(Reply::DataOutside))
+}
+
+fn load_at(
+    marked: bool,
+    w: Width,
+    at: ByteAddr,
+    d: u32,
+    f: Flags,
+    c: Control,
+    m: &[u8],
+    mk: &[u8],
+) -> Act
+    ensures { λ r. ⌜ r ≡ cond marked (Act.Stop Reply.MarkedOperand) (loadAct w at d f c (now (m .entry)) (now (mk .entry))) ⌝ }
 {
     if is_inside(m, at.0, bytes(w)) {
         let e = cpu::loaded(d, word::load(w, m, at), c);
         let t = marks::mark_reg(marks::is_marked(w, mk, at), f);
-        return Act::Does(e, t, Reach::Reads(w, at));
+        return stop_if(marked, Act::Does(e, t, Reach::Reads(w, at)));
     }
-    Act::Stop(Reply::DataOutside)
+    stop_outside(marked)
 }
 
-fn store_at(w: Width, at: ByteAddr, f: Flags, c: Control, m: &[u8]) -> Act
-    ensures { λ r. ⌜ r ≡ storeAct w at f c (now (m .entry)) ⌝ }
+fn store_at(marked: bool, w: Width, at: ByteAddr, f: Flags, c: Control, m: &[u8]) -> Act
+    ensures { λ r. ⌜ r ≡ cond marked (Act.Stop Reply.MarkedOperand) (storeAct w at f c (now (m .entry))) ⌝ }
 {
     if is_inside(m, at.0, bytes(w)) {
-        return Act::Does(cpu::stored(c), keep(f), Reach::Writes(w, at));
+        return stop_if(
+            marked,
+            Act::Does(cpu::stored(c), keep(f), Reach::Writes(w, at)),
+        );
     }
-    Act::Stop(Reply::DataOutside)
+    stop_outside(marked)
 }
 
 fn act_on(i: Instr, x: Val, y: Val, f: Flags, c: Control, m: &[u8], mk: &[u8]) -> Act
@@ -478,6 +497,7 @@ fn act_on(i: Instr, x: Val, y: Val, f: Flags, c: Control, m: &[u8], mk: &[u8]) -
             marks::mark_reg(marks::either(f.tf, x.mark), f),
         ),
         Instr::Ldrpc(d, n) => load_at(
+            false,
             Width::Word,
             cpu::data_address(Width::Word, c.pc, n),
             d,
@@ -490,14 +510,8 @@ fn act_on(i: Instr, x: Val, y: Val, f: Flags, c: Control, m: &[u8], mk: &[u8]) -
             cpu::immediate(op, d, n, u, c),
             marks::mark_imm(op, x.mark, f),
         ),
-        Instr::Load(w, d, n, _) => stop_if(
-            y.mark,
-            load_at(w, cpu::data_address(w, v, n), d, f, c, m, mk),
-        ),
-        Instr::Store(w, _, n, _) => stop_if(
-            y.mark,
-            store_at(w, cpu::data_address(w, v, n), f, c, m),
-        ),
+        Instr::Load(w, d, n, _) => load_at(y.mark, w, cpu::data_address(w, v, n), d, f, c, m, mk),
+        Instr::Store(w, _, n, _) => store_at(y.mark, w, cpu::data_address(w, v, n), f, c, m),
         Instr::Mfsfr(d, n) => does(
             cpu::mfsfr(d, n, c),
             marks::mark_reg(marks::is_sfr_marked(n, f), f),
@@ -733,19 +747,15 @@ fn steps(b: usize, t: &[u8], s: State, m: &mut [u8], k: &mut [u8]) -> Ended
                 regs = values;
                 flags = f;
                 control = c;
+                n += 1;
                 if d.reg < 16 {
                     let i = d.reg as usize;
                     let was = marks[i];
                     // Most marks stay, and then their array is not copied.
-                    if marks::same(was, d.mark) {
-                        n += 1;
-                    } else {
+                    if !marks::same(was, d.mark) {
                         let tags = put_mark(marks, d.reg, d.mark);
                         marks = tags;
-                        n += 1;
                     }
-                } else {
-                    n += 1;
                 }
             }
         }

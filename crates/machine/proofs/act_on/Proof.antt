@@ -116,9 +116,6 @@ data-address-requires-2 c κs = search needs
 load-at-requires-2 : tie.Need-load-at-requires-2
 load-at-requires-2 c κs = search needs
 
-stop-if-requires : tie.Need-stop-if-requires
-stop-if-requires c κs = search needs
-
 enum-known-i-10 : tie.Need-enum-known-i-10
 enum-known-i-10 c = search needs
 
@@ -127,9 +124,6 @@ data-address-requires-3 c κs = search needs
 
 store-at-requires : tie.Need-store-at-requires
 store-at-requires c κs = search needs
-
-stop-if-requires-2 : tie.Need-stop-if-requires-2
-stop-if-requires-2 c κs = search needs
 
 enum-known-i-11 : tie.Need-enum-known-i-11
 enum-known-i-11 c = search needs
@@ -158,8 +152,8 @@ mark-mtsfr-requires c κs = search needs
 does-requires-9 : tie.Need-does-requires-9
 does-requires-9 c κs = search needs
 
-stop-if-requires-3 : tie.Need-stop-if-requires-3
-stop-if-requires-3 c κs = search needs
+stop-if-requires : tie.Need-stop-if-requires
+stop-if-requires c κs = search needs
 
 enum-told : tie.Need-enum-told
 enum-told c = search needs
@@ -173,8 +167,8 @@ keep-requires c κs = search needs
 does-requires-10 : tie.Need-does-requires-10
 does-requires-10 c κs = search needs
 
-stop-if-requires-4 : tie.Need-stop-if-requires-4
-stop-if-requires-4 c κs = search needs
+stop-if-requires-2 : tie.Need-stop-if-requires-2
+stop-if-requires-2 c κs = search needs
 
 enum-told-2 : tie.Need-enum-told-2
 enum-told-2 c = search needs
@@ -188,8 +182,8 @@ keep-requires-2 c κs = search needs
 does-requires-11 : tie.Need-does-requires-11
 does-requires-11 c κs = search needs
 
-stop-if-requires-5 : tie.Need-stop-if-requires-5
-stop-if-requires-5 c κs = search needs
+stop-if-requires-3 : tie.Need-stop-if-requires-3
+stop-if-requires-3 c κs = search needs
 
 enum-known-i-13 : tie.Need-enum-known-i-13
 enum-known-i-13 c = search needs
@@ -206,8 +200,8 @@ keep-requires-3 c κs = search needs
 does-requires-12 : tie.Need-does-requires-12
 does-requires-12 c κs = search needs
 
-stop-if-requires-6 : tie.Need-stop-if-requires-6
-stop-if-requires-6 c κs = search needs
+stop-if-requires-4 : tie.Need-stop-if-requires-4
+stop-if-requires-4 c κs = search needs
 
 enum-known-i-14 : tie.Need-enum-known-i-14
 enum-known-i-14 c = search needs
@@ -236,8 +230,8 @@ keep-requires-5 c κs = search needs
 does-requires-14 : tie.Need-does-requires-14
 does-requires-14 c κs = search needs
 
-stop-if-requires-7 : tie.Need-stop-if-requires-7
-stop-if-requires-7 c κs = search needs
+stop-if-requires-5 : tie.Need-stop-if-requires-5
+stop-if-requires-5 c κs = search needs
 
 enum-known-i-16 : tie.Need-enum-known-i-16
 enum-known-i-16 c = search needs
@@ -254,8 +248,8 @@ keep-requires-6 c κs = search needs
 does-requires-15 : tie.Need-does-requires-15
 does-requires-15 c κs = search needs
 
-stop-if-requires-8 : tie.Need-stop-if-requires-8
-stop-if-requires-8 c κs = search needs
+stop-if-requires-6 : tie.Need-stop-if-requires-6
+stop-if-requires-6 c κs = search needs
 
 returns : tie.Need-returns
 unfolding actOf exec taint blocked reachOf
@@ -291,11 +285,11 @@ returns-8 c = rw (c .does7 .ensures, c .before .mark-imm .ensures, c .before .be
 
 returns-9 : tie.Need-returns-9
 unfolding actOf exec taint blocked reachOf
-returns-9 c = rw (c .stop-if .ensures, c .before .load-at2 .ensures, c .before .before .data-address2 .ensures, c .before .before .before .before .i9 .given .1)
+returns-9 c = rw (c .load-at2 .ensures, c .before .data-address2 .ensures, c .before .before .before .i9 .given .1)
 
 returns-10 : tie.Need-returns-10
 unfolding actOf exec taint blocked reachOf
-returns-10 c = rw (c .stop-if2 .ensures, c .before .store-at .ensures, c .before .before .data-address3 .ensures, c .before .before .before .before .i10 .given .1)
+returns-10 c = rw (c .store-at .ensures, c .before .data-address3 .ensures, c .before .before .before .i10 .given .1)
 
 returns-11 : tie.Need-returns-11
 unfolding actOf exec taint blocked reachOf
@@ -303,19 +297,19 @@ returns-11 c = rw (c .does8 .ensures, c .before .mark-reg3 .ensures, c .before .
 
 returns-12 : tie.Need-returns-12
 unfolding actOf exec taint blocked reachOf
-returns-12 c = rw (c .stop-if3 .ensures, c .before .does9 .ensures, c .before .before .mark-mtsfr .ensures, c .before .before .before .mtsfr .ensures, c .before .before .before .before .before .i12 .given .1)
+returns-12 c = rw (c .stop-if .ensures, c .before .does9 .ensures, c .before .before .mark-mtsfr .ensures, c .before .before .before .mtsfr .ensures, c .before .before .before .before .before .i12 .given .1)
 
 returns-13 : tie.Need-returns-13
 unfolding actOf exec taint blocked reachOf
-returns-13 c = rw (c .stop-if4 .ensures, c .before .does10 .ensures, c .before .before .keep .ensures, c .before .before .before .jr .ensures, c .before .before .before .before .enum-told .given .1)
+returns-13 c = rw (c .stop-if2 .ensures, c .before .does10 .ensures, c .before .before .keep .ensures, c .before .before .before .jr .ensures, c .before .before .before .before .enum-told .given .1)
 
 returns-14 : tie.Need-returns-14
 unfolding actOf exec taint blocked reachOf
-returns-14 c = rw (c .stop-if5 .ensures, c .before .does11 .ensures, c .before .before .keep2 .ensures, c .before .before .before .jrl .ensures, c .before .before .before .before .enum-told2 .given .1)
+returns-14 c = rw (c .stop-if3 .ensures, c .before .does11 .ensures, c .before .before .keep2 .ensures, c .before .before .before .jrl .ensures, c .before .before .before .before .enum-told2 .given .1)
 
 returns-15 : tie.Need-returns-15
 unfolding actOf exec taint blocked reachOf
-returns-15 c = rw (c .stop-if6 .ensures, c .before .does12 .ensures, c .before .before .keep3 .ensures, c .before .before .before .jsfr .ensures, c .before .before .before .before .is-sfr-marked2 .ensures, c .before .before .before .before .before .before .i13 .given .1)
+returns-15 c = rw (c .stop-if4 .ensures, c .before .does12 .ensures, c .before .before .keep3 .ensures, c .before .before .before .jsfr .ensures, c .before .before .before .before .is-sfr-marked2 .ensures, c .before .before .before .before .before .before .i13 .given .1)
 
 returns-16 : tie.Need-returns-16
 unfolding actOf exec taint blocked reachOf
@@ -323,11 +317,11 @@ returns-16 c = rw (c .does13 .ensures, c .before .keep4 .ensures, c .before .bef
 
 returns-17 : tie.Need-returns-17
 unfolding actOf exec taint blocked reachOf
-returns-17 c = rw (c .stop-if7 .ensures, c .before .does14 .ensures, c .before .before .keep5 .ensures, c .before .before .before .short-jump .ensures, c .before .before .before .before .is-short-blocked .ensures, c .before .before .before .before .before .before .i15 .given .1)
+returns-17 c = rw (c .stop-if5 .ensures, c .before .does14 .ensures, c .before .before .keep5 .ensures, c .before .before .before .short-jump .ensures, c .before .before .before .before .is-short-blocked .ensures, c .before .before .before .before .before .before .i15 .given .1)
 
 returns-18 : tie.Need-returns-18
 unfolding actOf exec taint blocked reachOf
-returns-18 c = rw (c .stop-if8 .ensures, c .before .does15 .ensures, c .before .before .keep6 .ensures, c .before .before .before .long-jump .ensures, c .before .before .before .before .is-long-blocked .ensures, c .before .before .before .before .before .before .i16 .given .1)
+returns-18 c = rw (c .stop-if6 .ensures, c .before .does15 .ensures, c .before .before .keep6 .ensures, c .before .before .before .long-jump .ensures, c .before .before .before .before .is-long-blocked .ensures, c .before .before .before .before .before .before .i16 .given .1)
 
 pub act-on-spec : {M : Type 1} → statement M
 act-on-spec =
@@ -370,11 +364,9 @@ act-on-spec =
     enum-known-i-9
     data-address-requires-2
     load-at-requires-2
-    stop-if-requires
     enum-known-i-10
     data-address-requires-3
     store-at-requires
-    stop-if-requires-2
     enum-known-i-11
     mfsfr-requires
     is-sfr-marked-requires
@@ -384,23 +376,23 @@ act-on-spec =
     mtsfr-requires
     mark-mtsfr-requires
     does-requires-9
-    stop-if-requires-3
+    stop-if-requires
     enum-told
     jr-requires
     keep-requires
     does-requires-10
-    stop-if-requires-4
+    stop-if-requires-2
     enum-told-2
     jrl-requires
     keep-requires-2
     does-requires-11
-    stop-if-requires-5
+    stop-if-requires-3
     enum-known-i-13
     is-sfr-marked-requires-2
     jsfr-requires
     keep-requires-3
     does-requires-12
-    stop-if-requires-6
+    stop-if-requires-4
     enum-known-i-14
     swint-requires
     keep-requires-4
@@ -410,13 +402,13 @@ act-on-spec =
     short-jump-requires
     keep-requires-5
     does-requires-14
-    stop-if-requires-7
+    stop-if-requires-5
     enum-known-i-16
     is-long-blocked-requires
     long-jump-requires
     keep-requires-6
     does-requires-15
-    stop-if-requires-8
+    stop-if-requires-6
     returns
     returns-2
     returns-3

@@ -20,11 +20,17 @@ is-marked-requires c κs = search needs
 mark-reg-requires : tie.Need-mark-reg-requires
 mark-reg-requires c κs = search needs
 
+stop-if-requires : tie.Need-stop-if-requires
+stop-if-requires c κs = search needs
+
 returns : tie.Need-returns
-returns c = rw (c .mark-reg .ensures, c .before .is-marked .ensures, c .before .before .loaded .ensures, c .before .before .before .load .ensures, ← (c .before .before .before .before .before .before .bytes .ensures), ← (c .before .before .before .before .before .is-inside .ensures), c .before .before .before .before .if1 .taken)
+returns c = rw (c .stop-if .ensures, c .before .mark-reg .ensures, c .before .before .is-marked .ensures, c .before .before .before .loaded .ensures, c .before .before .before .before .load .ensures, ← (c .before .before .before .before .before .before .before .bytes .ensures), ← (c .before .before .before .before .before .before .is-inside .ensures), c .before .before .before .before .before .if1 .taken)
+
+stop-outside-requires : tie.Need-stop-outside-requires
+stop-outside-requires c κs = search needs
 
 returns-2 : tie.Need-returns-2
-returns-2 c = rw (← (c .before .before .bytes .ensures), ← (c .before .is-inside .ensures), c .if1 .left)
+returns-2 c = rw (c .stop-outside .ensures, ← (c .before .before .before .bytes .ensures), ← (c .before .before .is-inside .ensures), c .before .if1 .left)
 
 pub load-at-spec : {M : Type 1} → statement M
 load-at-spec =
@@ -36,5 +42,7 @@ load-at-spec =
     loaded-requires
     is-marked-requires
     mark-reg-requires
+    stop-if-requires
     returns
+    stop-outside-requires
     returns-2)

@@ -1,5 +1,3 @@
-use borrow.Author.Tests.{lt-ltb, le-ltb, le-leb, lt-leb, eq-eqb, ne-eqb}
-use Rattle.machine.specs.Step.{instrTurn}
 use borrow.Author.Needs.{needs}
 use Rattle.machine.proofs.read.Statement.{statement}
 use Rattle.machine.proofs.read.Tie as tie

@@ -14,13 +14,27 @@ stored-requires c κs = search needs
 keep-requires : tie.Need-keep-requires
 keep-requires c κs = search needs
 
+stop-if-requires : tie.Need-stop-if-requires
+stop-if-requires c κs = search needs
+
 returns : tie.Need-returns
-returns c = rw (c .keep .ensures, c .before .stored .ensures, ← (c .before .before .before .before .bytes .ensures), ← (c .before .before .before .is-inside .ensures), c .before .before .if1 .taken)
+returns c = rw (c .stop-if .ensures, c .before .keep .ensures, c .before .before .stored .ensures, ← (c .before .before .before .before .before .bytes .ensures), ← (c .before .before .before .before .is-inside .ensures), c .before .before .before .if1 .taken)
+
+stop-outside-requires : tie.Need-stop-outside-requires
+stop-outside-requires c κs = search needs
 
 returns-2 : tie.Need-returns-2
-returns-2 c = rw (← (c .before .before .bytes .ensures), ← (c .before .is-inside .ensures), c .if1 .left)
+returns-2 c = rw (c .stop-outside .ensures, ← (c .before .before .before .bytes .ensures), ← (c .before .before .is-inside .ensures), c .before .if1 .left)
 
 pub store-at-spec : {M : Type 1} → statement M
 store-at-spec =
     tie.close
-    (tie.spec bytes-requires is-inside-requires stored-requires keep-requires returns returns-2)
+    (tie.spec
+    bytes-requires
+    is-inside-requires
+    stored-requires
+    keep-requires
+    stop-if-requires
+    returns
+    stop-outside-requires
+    returns-2)
