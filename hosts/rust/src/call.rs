@@ -29,16 +29,15 @@ pub fn run_record(
     tape: &[u8],
     budget: u64,
 ) -> Result<Outcome, Error> {
-    match call(record, memory, marks, tape, budget) {
-        (0, _) => Err(Error::RecordOutOfShape),
-        (number, steps) => {
-            let reply = Reply::from_number(number).ok_or(Error::UnknownReply(number))?;
-            Ok(Outcome { reply, steps })
-        }
+    let (number, steps) = call(record, memory, marks, tape, budget);
+    match Reply::from_number(number) {
+        Some(reply) => Ok(Outcome { reply, steps }),
+        None if (number, steps) == (0, 0) => Err(Error::RecordOutOfShape),
+        None => Err(Error::UnknownReply { number, steps }),
     }
 }
 
-/// The reply's number and the completed steps.
+/// The reply's number and the completed steps, as the library gives them.
 fn call(
     record: &mut [u8],
     memory: &mut [u8],
@@ -46,7 +45,8 @@ fn call(
     tape: &[u8],
     budget: u64,
 ) -> (u32, u64) {
-    let mut steps = 0;
+    // The library writes it whatever it replies; this value would show if it didn't.
+    let mut steps = u64::MAX;
     // SAFETY: each pointer comes with its length from a slice, so it isn't null, even if the slice
     // is empty, and its bytes are initialized and live for the call. The mutable slices and
     // `steps` are borrowed for this call alone, so nothing overlaps them. The library keeps no

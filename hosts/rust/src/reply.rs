@@ -75,15 +75,17 @@ pub struct Outcome {
 pub enum Error {
     /// The bytes are no state record.
     RecordOutOfShape,
-    /// The library gave a number that is no reply.
-    UnknownReply(u32),
+    /// The library gave an answer that it never gives.
+    UnknownReply { number: u32, steps: u64 },
 }
 
 impl fmt::Display for Error {
     fn fmt(&self, formatter: &mut fmt::Formatter) -> fmt::Result {
         match self {
             Error::RecordOutOfShape => write!(formatter, "state record out of shape"),
-            Error::UnknownReply(number) => write!(formatter, "unknown reply {number}"),
+            Error::UnknownReply { number, steps } => {
+                write!(formatter, "unknown reply {number} after {steps} steps")
+            }
         }
     }
 }
