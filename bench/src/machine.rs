@@ -33,14 +33,14 @@ pub struct Second {
 
 impl Library {
     pub fn new(image: &Image) -> Library {
-        let (memory, marks) = (image.memory.clone(), vec![0; image.memory.len()]);
+        let (memory, marks) = (image.memory.clone(), image.marks.clone());
         Library { record: record::write(&image.state).to_vec(), memory, marks }
     }
 }
 
 impl Second {
     pub fn new(image: &Image) -> Second {
-        let (memory, marks) = (image.memory.clone(), vec![0; image.memory.len()]);
+        let (memory, marks) = (image.memory.clone(), image.marks.clone());
         Second { state: image.state.clone(), memory, marks }
     }
 }
