@@ -16,6 +16,12 @@ const USAGE: &str =
        bench steps NUMBER SIZE PROGRAM BUDGET  makes one run, PROGRAM is library or second
 ";
 
+const HEAD: &str = "\
+| Image | Memory | Library, million steps a second | Second program | Ratio \
+| Library over 24 MHz | Second program over 24 MHz |
+|---|---|---|---|---|---|---|
+";
+
 /// Rounds of an image; the median counts.
 const ROUNDS: usize = 9;
 
@@ -65,8 +71,7 @@ fn steps(number: &str, size: &str, program: &str, budget: &str) -> Option<()> {
 /// Measures every image and writes the table.
 fn time() {
     let tape = vec![0; CALL];
-    println!("| Image | Memory | Library, million steps a second | Second program | Ratio | Library over 24 MHz | Second program over 24 MHz |");
-    println!("|---|---|---|---|---|---|---|");
+    print!("{HEAD}");
     for size in SIZES {
         for image in IMAGES.map(|image| image(size)) {
             let (library, second) = measure(&image, &tape);
