@@ -5,6 +5,7 @@ mod coverage;
 mod edges;
 mod random;
 
+pub use build::{assemble, Line};
 pub use coverage::{coverage, Coverage};
 pub use edges::edges;
 pub use random::random;

@@ -1,13 +1,18 @@
-//! What the corpus reaches.
+//! What runs reach.
 
 use super::{Case, REPLIES};
 use crate::isa::{decode, mnemonics};
+use crate::run::Outcome;
+use crate::state::State;
 use crate::step::{step, Entry, Step};
 
 /// Counts with their names, in a fixed order.
 pub struct Coverage {
-    /// For each line its kind, its name and how often it was reached.
+    /// For each line its kind, its name and how often it was reached: the mnemonics first, then
+    /// the replies, then the entries.
     pub lines: Vec<(&'static str, String, u64)>,
+    /// For each first byte of an instruction the line of its mnemonic.
+    line_of_byte: [Option<usize>; 256],
 }
 
 /// The kinds of entry.
@@ -15,43 +20,66 @@ const ENTRIES: [&str; 5] = ["swint", "breakpoint", "watchpoint", "timer", "exter
 
 /// How often these cases reach each mnemonic, each reply and each kind of entry.
 pub fn coverage(cases: &[Case]) -> Coverage {
-    let mut coverage = Coverage { lines: Vec::new() };
-    for mnemonic in mnemonics() {
-        coverage.lines.push(("step", mnemonic.mnemonic().to_string(), 0));
+    let mut coverage = Coverage::new();
+    for case in cases {
+        let (outcome, _) = case.run();
+        let Case { state, mut memory, mut marks, tape, .. } = case.clone();
+        coverage.add(outcome, state, &mut memory, &mut marks, &tape);
     }
-    for reply in REPLIES {
-        coverage.lines.push(("reply", reply.number().to_string(), 0));
-    }
-    for entry in ENTRIES {
-        coverage.lines.push(("entry", entry.to_string(), 0));
-    }
-    cases.iter().for_each(|case| coverage.add(case));
     coverage
 }
 
 impl Coverage {
-    fn count(&mut self, kind: &str, name: &str) {
-        let line = self.lines.iter_mut().find(|(k, n, _)| *k == kind && n == name);
-        line.expect("every kind and name is listed").2 += 1;
+    /// Nothing reached yet.
+    pub fn new() -> Coverage {
+        let mnemonics = mnemonics();
+        let named = |kind, names: Vec<String>| names.into_iter().map(move |name| (kind, name, 0));
+        let steps = mnemonics.iter().map(|each| each.mnemonic().to_string()).collect();
+        let replies = REPLIES.iter().map(|reply| reply.number().to_string()).collect();
+        let entries = ENTRIES.map(str::to_string).to_vec();
+        let lines = named("step", steps).chain(named("reply", replies));
+        let lines = lines.chain(named("entry", entries)).collect();
+        let line_of_byte = std::array::from_fn(|byte| {
+            let mnemonic = decode((byte as u16) << 8, 0)?.with_operands([0; 3]);
+            mnemonics.iter().position(|&each| each == mnemonic)
+        });
+        Coverage { lines, line_of_byte }
     }
 
-    /// Counts the reply of a case and makes its steps once more, one by one.
-    fn add(&mut self, case: &Case) {
-        let (outcome, _) = case.run();
-        self.count("reply", &outcome.reply.number().to_string());
-        let Case { mut state, mut memory, mut marks, tape, .. } = case.clone();
+    /// Counts the reply of a run and makes its completed steps once more, one by one, on what the
+    /// run began with.
+    pub fn add(
+        &mut self,
+        outcome: Outcome,
+        mut state: State,
+        memory: &mut [u8],
+        marks: &mut [u8],
+        tape: &[u8],
+    ) {
+        let (first_entry, first_reply) = (self.lines.len() - ENTRIES.len(), self.first_reply());
+        let reply = REPLIES.iter().position(|&reply| reply == outcome.reply);
+        self.count(first_reply + reply.expect("every reply is listed"));
         for &lines in &tape[..outcome.steps as usize] {
-            let mnemonic = mnemonic_at(&memory, state.pc);
-            let step = step(&mut state, &mut memory, &mut marks, lines).expect("it was completed");
+            let first_byte = memory.get(state.pc as usize).copied();
+            let step = step(&mut state, memory, marks, lines).expect("it was completed");
             let entry = entry_name(step);
-            if let Some(entry) = entry {
-                self.count("entry", entry);
+            if let Some(entry) = entry.and_then(|name| ENTRIES.iter().position(|&e| e == name)) {
+                self.count(first_entry + entry);
             }
             // The other entries take the place of an instruction.
             if matches!(entry, None | Some("swint" | "watchpoint")) {
-                self.count("step", mnemonic.expect("an instruction was done"));
+                let line = first_byte.and_then(|byte| self.line_of_byte[usize::from(byte)]);
+                self.count(line.expect("an instruction was done"));
             }
         }
+    }
+
+    fn first_reply(&self) -> usize {
+        self.lines.len() - ENTRIES.len() - REPLIES.len()
+    }
+
+    fn count(&mut self, line: usize) {
+        self.lines[line].2 += 1;
     }
 
     /// The lines as text.
@@ -60,10 +88,10 @@ impl Coverage {
     }
 }
 
-/// The mnemonic at an address; its first half alone decides over it.
-fn mnemonic_at(memory: &[u8], pc: u32) -> Option<&'static str> {
-    let first = memory.get(pc as usize..)?.first_chunk().copied().map(u16::from_be_bytes)?;
-    Some(decode(first, 0)?.mnemonic())
+impl Default for Coverage {
+    fn default() -> Coverage {
+        Coverage::new()
+    }
 }
 
 /// The kind of a step's entry: a debug entry with a data address comes from a watchpoint.

@@ -1,0 +1,17 @@
+//! Links the static library from `MANIK_LIB_DIR`, or from where `rt staticlib abi` writes it.
+
+use std::env;
+use std::path::PathBuf;
+
+fn main() {
+    println!("cargo:rerun-if-env-changed=MANIK_LIB_DIR");
+    let folder = match env::var_os("MANIK_LIB_DIR") {
+        Some(folder) => PathBuf::from(folder),
+        None => PathBuf::from(env!("CARGO_MANIFEST_DIR")).join("../../target/staticlib"),
+    };
+    let archive = folder.join("libabi.a");
+    println!("cargo:rerun-if-changed={}", archive.display());
+    assert!(archive.exists(), "no {}: write it with `rt staticlib abi`", archive.display());
+    println!("cargo:rustc-link-search=native={}", folder.display());
+    println!("cargo:rustc-link-lib=static=abi");
+}

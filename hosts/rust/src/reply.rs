@@ -1,0 +1,93 @@
+//! What a run answers.
+
+use std::fmt;
+
+/// A reply of document 01. Its number is document 01's.
+#[derive(Clone, Copy, Debug, PartialEq, Eq, Hash)]
+pub enum Reply {
+    /// Memory length is 0, above 65,536, or no multiple of 4.
+    MemoryLength = 1,
+    /// Mark slice of another length.
+    MarkLength = 2,
+    /// A mark byte above 1.
+    MarkByte = 3,
+    /// State out of form.
+    StateForm = 4,
+    /// Tape shorter than the budget.
+    TapeLength = 5,
+    /// A byte above 63 among the first "budget" tape bytes.
+    TapeByte = 6,
+    /// Budget used up.
+    BudgetUsed = 10,
+    /// Instruction fetch outside memory.
+    FetchOutside = 11,
+    /// Instruction fetch from a marked byte.
+    FetchMarked = 12,
+    /// Bits that are no instruction.
+    NoInstruction = 13,
+    /// A marked operand where none may be.
+    OperandMarked = 14,
+    /// Load or store outside memory.
+    DataOutside = 15,
+}
+
+impl Reply {
+    /// Document 01's number.
+    pub const fn number(self) -> u32 {
+        self as u32
+    }
+
+    /// The reply with this number.
+    pub const fn from_number(number: u32) -> Option<Reply> {
+        Some(match number {
+            1 => Reply::MemoryLength,
+            2 => Reply::MarkLength,
+            3 => Reply::MarkByte,
+            4 => Reply::StateForm,
+            5 => Reply::TapeLength,
+            6 => Reply::TapeByte,
+            10 => Reply::BudgetUsed,
+            11 => Reply::FetchOutside,
+            12 => Reply::FetchMarked,
+            13 => Reply::NoInstruction,
+            14 => Reply::OperandMarked,
+            15 => Reply::DataOutside,
+            _ => return None,
+        })
+    }
+
+    /// Whether it is one of refusals 1 to 6, which change nothing.
+    pub const fn is_refusal(self) -> bool {
+        self.number() < Reply::BudgetUsed.number()
+    }
+}
+
+/// The answer to a run.
+#[derive(Clone, Copy, Debug, PartialEq, Eq, Hash)]
+pub struct Outcome {
+    pub reply: Reply,
+    /// The number of completed steps.
+    pub steps: u64,
+}
+
+/// Why there is no answer of document 01.
+#[derive(Clone, Copy, Debug, PartialEq, Eq, Hash)]
+pub enum Error {
+    /// The bytes are no state record.
+    RecordOutOfShape,
+    /// The library gave an answer that it never gives.
+    UnknownReply { number: u32, steps: u64 },
+}
+
+impl fmt::Display for Error {
+    fn fmt(&self, formatter: &mut fmt::Formatter) -> fmt::Result {
+        match self {
+            Error::RecordOutOfShape => write!(formatter, "state record out of shape"),
+            Error::UnknownReply { number, steps } => {
+                write!(formatter, "unknown reply {number} after {steps} steps")
+            }
+        }
+    }
+}
+
+impl std::error::Error for Error {}

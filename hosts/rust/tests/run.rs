@@ -1,0 +1,203 @@
+//! Runs through the static library: document 01's example, every reply, and records out of shape.
+
+use manik::{run, run_record, Error, Outcome, Register, Reply, State, RECORD_LENGTH};
+
+/// The bytes of document 01's example: movi r1,16; add r1,r1; a jump to itself.
+const EXAMPLE: [u8; 6] = [0x71, 0x10, 0x21, 0x11, 0xf4, 0x00];
+
+/// A machine to set up and run.
+#[derive(Clone, Debug, PartialEq)]
+struct Rig {
+    state: State,
+    memory: Vec<u8>,
+    marks: Vec<u8>,
+    tape: Vec<u8>,
+    budget: u64,
+}
+
+impl Rig {
+    /// Fresh, with 16 bytes of memory that begin with these, and a budget of 3.
+    fn with(bytes: &[u8]) -> Rig {
+        let mut memory = vec![0; 16];
+        memory[..bytes.len()].copy_from_slice(bytes);
+        Rig { state: State::fresh(), memory, marks: vec![0; 16], tape: vec![0; 3], budget: 3 }
+    }
+
+    fn run(&mut self) -> (Reply, u64) {
+        let Rig { state, memory, marks, tape, budget } = self;
+        let Outcome { reply, steps } =
+            run(state, memory, marks, tape, *budget).expect("the state has a record");
+        (reply, steps)
+    }
+}
+
+/// A refusal returns steps 0 and leaves everything as given.
+fn refuses(change: impl FnOnce(&mut Rig), reply: Reply) {
+    let mut rig = Rig::with(&EXAMPLE);
+    change(&mut rig);
+    let before = rig.clone();
+    assert_eq!(rig.run(), (reply, 0));
+    assert_eq!(rig, before);
+}
+
+/// A stop after so many steps.
+fn stops(bytes: &[u8], change: impl FnOnce(&mut Rig), reply: Reply, steps: u64) {
+    let mut rig = Rig::with(bytes);
+    change(&mut rig);
+    assert_eq!(rig.run(), (reply, steps));
+}
+
+#[test]
+fn the_example_of_document_01() {
+    let mut rig = Rig::with(&EXAMPLE);
+    let mut after = rig.clone();
+    assert_eq!(rig.run(), (Reply::BudgetUsed, 3));
+    after.state.pc = 4;
+    after.state.registers[1] = Register { value: 0x20, marked: false };
+    assert_eq!(rig, after);
+}
+
+#[test]
+fn refusal_1_memory_length() {
+    for length in [0, 1, 2, 3, 5, 14, 65_537, 65_540] {
+        refuses(|rig| rig.memory = vec![0; length], Reply::MemoryLength);
+    }
+}
+
+#[test]
+fn refusal_2_mark_length() {
+    for length in [0, 4, 15, 17, 65_536] {
+        refuses(|rig| rig.marks = vec![0; length], Reply::MarkLength);
+    }
+}
+
+#[test]
+fn refusal_3_mark_byte() {
+    for (place, byte) in [(0, 2), (7, 255), (15, 128)] {
+        refuses(|rig| rig.marks[place] = byte, Reply::MarkByte);
+    }
+}
+
+#[test]
+fn refusal_4_state_form() {
+    refuses(|rig| rig.state.pc = 1, Reply::StateForm);
+    refuses(|rig| rig.state.psw = 1 << 12, Reply::StateForm);
+    for hwdbg in [0, 1, 2, 3 | 1 << 9, 3 | 1 << 31] {
+        refuses(|rig| rig.state.hwdbg = hwdbg, Reply::StateForm);
+    }
+    refuses(|rig| (rig.state.pending, rig.state.timer) = (true, 1), Reply::StateForm);
+}
+
+#[test]
+fn refusal_5_tape_length() {
+    for budget in [4, 1 << 32, u64::MAX] {
+        refuses(|rig| rig.budget = budget, Reply::TapeLength);
+    }
+    refuses(|rig| rig.tape.clear(), Reply::TapeLength);
+}
+
+#[test]
+fn refusal_6_tape_byte() {
+    for (place, byte) in [(0, 64), (2, 255)] {
+        refuses(|rig| rig.tape[place] = byte, Reply::TapeByte);
+    }
+    stops(&EXAMPLE, |rig| rig.tape.push(255), Reply::BudgetUsed, 3);
+}
+
+#[test]
+fn the_first_refusal_is_given() {
+    let damage = |rig: &mut Rig| {
+        rig.state.pc = 1;
+        rig.marks[3] = 2;
+        rig.budget = 9;
+    };
+    refuses(damage, Reply::MarkByte);
+    refuses(|rig| (rig.memory, rig.marks) = (Vec::new(), Vec::new()), Reply::MemoryLength);
+}
+
+#[test]
+fn no_step_is_made_with_budget_0() {
+    stops(&EXAMPLE, |rig| (rig.budget, rig.tape) = (0, Vec::new()), Reply::BudgetUsed, 0);
+}
+
+#[test]
+fn stops_11_to_15() {
+    stops(&EXAMPLE, |rig| rig.state.pc = 16, Reply::FetchOutside, 0);
+    stops(&EXAMPLE, |rig| rig.marks[3] = 1, Reply::FetchMarked, 1);
+    stops(&[0x71, 0x10, 0xfc, 0x00], |_| (), Reply::NoInstruction, 1);
+    // jr r1 with r1 marked.
+    stops(&[0x1c, 0x01], |rig| rig.state.registers[1].marked = true, Reply::OperandMarked, 0);
+    // ldr r1 from r2 + 0, at the end of memory.
+    stops(&[0x80, 0x12], |rig| rig.state.registers[2].value = 16, Reply::DataOutside, 0);
+}
+
+#[test]
+fn a_store_changes_memory_and_marks() {
+    // str r1 to r2 + 4.
+    let mut rig = Rig::with(&[0x91, 0x12]);
+    rig.state.registers[1] = Register { value: 0x0102_0304, marked: true };
+    rig.state.registers[2].value = 8;
+    (rig.tape, rig.budget) = (vec![0], 1);
+    assert_eq!(rig.run(), (Reply::BudgetUsed, 1));
+    assert_eq!(rig.memory[12..], [1, 2, 3, 4]);
+    assert_eq!(rig.marks[8..], [0, 0, 0, 0, 1, 1, 1, 1]);
+}
+
+/// A state in which every place holds something else.
+fn busy_state() -> State {
+    let mut state = State::fresh();
+    for (n, register) in (1..).zip(&mut state.registers) {
+        *register = Register { value: 0x0123_4567_u32.wrapping_mul(n), marked: n % 3 == 0 };
+    }
+    (state.pc, state.psw) = (0x5a5a_0000, 0xabfa_eccf);
+    (state.tf_marked, state.cy_marked, state.pending) = (true, false, true);
+    (state.ra, state.ipc, state.timer, state.ibase) = (0x5a5a_0001, 0x5a5a_0002, 0, 0x5a5a_0004);
+    (state.usreg, state.hwdbg) = (0x5a5a_0005, 0x1c3);
+    (state.bp0, state.bp1, state.wp0, state.wp1) = (7, 0x5a5a_0008, 0x5a5a_0009, 0x5a5a_000a);
+    state
+}
+
+#[test]
+fn a_record_read_back_is_the_state() {
+    for state in [State::fresh(), busy_state()] {
+        let record = state.to_record();
+        assert_eq!(State::from_record(&record), Some(state));
+    }
+}
+
+/// The library reads and writes every place: a run of no steps gives the record back.
+#[test]
+fn the_library_gives_a_record_back() {
+    let (mut record, mut memory, mut marks) = (busy_state().to_record(), [0; 4], [0; 4]);
+    let outcome = run_record(&mut record, &mut memory, &mut marks, &[], 0);
+    assert_eq!(outcome, Ok(Outcome { reply: Reply::BudgetUsed, steps: 0 }));
+    assert_eq!(record, busy_state().to_record());
+}
+
+#[test]
+fn records_out_of_shape_change_nothing() {
+    let good = busy_state().to_record();
+    let mut damaged: Vec<Vec<u8>> =
+        vec![Vec::new(), good[..159].to_vec(), [&good[..], &[0]].concat()];
+    let places = (64..80).chain(88..92).chain(132..RECORD_LENGTH);
+    damaged.extend(places.map(|place| {
+        let mut record = good.to_vec();
+        record[place] = 2;
+        record
+    }));
+    for record in damaged {
+        let (mut after, mut memory, mut marks) = (record.clone(), EXAMPLE, [0; 6]);
+        let outcome = run_record(&mut after, &mut memory, &mut marks, &[0; 3], 3);
+        assert_eq!(outcome, Err(Error::RecordOutOfShape));
+        assert_eq!((&after, memory, marks), (&record, EXAMPLE, [0; 6]));
+        assert_eq!(State::from_record(&record), None);
+    }
+}
+
+#[test]
+fn a_reply_has_its_number() {
+    for number in (0..32).chain([u32::MAX]) {
+        let known = matches!(number, 1..=6 | 10..=15);
+        assert_eq!(Reply::from_number(number).map(Reply::number), known.then_some(number));
+    }
+}
