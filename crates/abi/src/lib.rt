@@ -69,7 +69,7 @@ fn control_at(r: &[u8]) -> Control
     }
 }
 
-pub fn state_at(r: &[u8]) -> State
+fn state_at(r: &[u8]) -> State
     ensures { λ s. ⌜ s ≡ stateAt (now (r .entry)) ⌝ }
 {
     State {
@@ -85,6 +85,7 @@ pub fn state_at(r: &[u8]) -> State
 
 // ---- a record from its state
 
+// Numbers one behind the other. No record is long, so the offsets fit.
 fn put_words(r: &mut [u8], at: u32, l: &[u32])
     requires { ⌜ (at + 4 * length (now l) ≤ length (now r)) × (length (now r) ≤ 160) ⌝ }
     ensures { λ _. ⌜ now (r .exit) ≡ sets (now (r .entry)) at (words (now (l .entry))) ⌝ }
@@ -107,6 +108,7 @@ fn put_flags(r: &mut [u8], at: u32, l: &[bool])
     }
 }
 
+// A byte that is zero is a flag that is not set.
 fn put_control(r: &mut [u8], f: Flags, c: Control)
     requires { ⌜ length (now r) ≡ 160 ⌝ }
     ensures { λ _. ⌜ now (r .exit) ≡ sets (now (r .entry)) 80 (controlPart f c) ⌝ }
@@ -132,7 +134,7 @@ fn put_control(r: &mut [u8], f: Flags, c: Control)
     put_flags(r, 132, &[false; 28]);
 }
 
-pub fn put_state(r: &mut [u8], s: State)
+fn put_state(r: &mut [u8], s: State)
     ensures { λ _. ⌜ now (r .exit) ≡ recordIn s (now (r .entry)) ⌝ }
 {
     if r.len() == 160 {
@@ -149,7 +151,7 @@ pub fn put_state(r: &mut [u8], s: State)
 // ---- the call
 
 // The length, marks and flags of 0 or 1, and zero where zero stands.
-pub fn is_shaped(r: &[u8]) -> bool
+fn is_shaped(r: &[u8]) -> bool
     ensures { λ b. ⌜ b ≡ shaped (now (r .entry)) ⌝ }
 {
     if r.len() == 160 {
@@ -170,6 +172,7 @@ pub fn is_shaped(r: &[u8]) -> bool
     false
 }
 
+// Reply 0 where there is no record; else the run of the state that it holds, with document 01's reply number.
 #[no_mangle]
 pub extern "C" fn manik_run(
     state: &mut [u8],

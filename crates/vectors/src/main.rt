@@ -89,11 +89,11 @@ fn write_made(line: &[u8; 512], n: usize) {
     write_start(line, n);
 }
 
-fn write_line(reply: u32, steps: usize, record: &[u8; 160], memory: u64, marks: u64) {
+fn write_line(reply: u32, steps: u64, record: &[u8; 160], memory: u64, marks: u64) {
     let mut line = [0u8; 512];
     let a = put_number(&mut line, 0, reply as u64);
     let b = put_tab(&mut line, a);
-    let c = put_number(&mut line, b, steps as u64);
+    let c = put_number(&mut line, b, steps);
     let d = put_tab(&mut line, c);
     let e = put_hex(&mut line, d, record);
     let f = put_tab(&mut line, e);
@@ -111,19 +111,11 @@ fn answer_case(
     memory: &mut [u8],
     marks: &mut [u8],
     tape: &[u8],
-    budget: usize,
+    budget: u64,
 ) {
-    let ended = machine::run(budget, tape, abi::state_at(record), memory, marks);
-    let reply = ended.reply;
-    let state = ended.state;
-    abi::put_state(record, state);
-    write_line(
-        machine::number(reply),
-        ended.steps,
-        record,
-        digest(memory),
-        digest(marks),
-    );
+    let mut steps: u64 = 0;
+    let reply = abi::manik_run(record, memory, marks, tape, budget, &mut steps);
+    write_line(reply, steps, record, digest(memory), digest(marks));
 }
 
 // The three parts have the lengths that the case gives them.
@@ -132,7 +124,7 @@ fn run_case(
     memory: &mut [u8],
     marks: &mut [u8],
     tape: &mut [u8],
-    budget: usize,
+    budget: u64,
 ) {
     io::read_full(STDIN_FILENO, memory);
     io::read_full(STDIN_FILENO, marks);
@@ -155,7 +147,7 @@ fn one_case(
     let m = at_most(size_at(sizes, 0), memory.len());
     let k = at_most(size_at(sizes, 4), marks.len());
     let t = at_most(size_at(sizes, 8), tape.len());
-    let budget = size_at(sizes, 12);
+    let budget = size_at(sizes, 12) as u64;
     run_case(
         record,
         &mut memory[..m],
