@@ -1,9 +1,10 @@
 // The static library: one call runs the machine on a state that lies in a record of 160 bytes. include/manik.h is its C header.
 ghost use mathlib.Core.Path.{_≡_};
+ghost use mathlib.Core.Bool.{_&&_};
 ghost use Prim.Native.Nat.{ℕ, _+_, _*_, _≤_};
 ghost use lib.ListN.{length};
 ghost use lib.Seq.{sets};
-ghost use Rattle.abi.specs.Record.{wordAt, flagAt, each, controlAt, stateAt, words, flags, controlPart, recordIn, shaped};
+ghost use Rattle.abi.specs.Record.{wordAt, flagAt, each, controlAt, stateAt, words, flags, controlPart, recordIn, within, shaped};
 ghost use Rattle.abi.specs.Call.{called};
 use cpu::Control;
 use machine::State;
@@ -150,24 +151,28 @@ fn put_state(r: &mut [u8], s: State)
 
 // ---- the call
 
+fn both(a: bool, b: bool) -> bool
+    ensures { λ r. ⌜ r ≡ (a && b) ⌝ }
+{
+    if a { b } else { false }
+}
+
+fn is_within(limit: u8, at: usize, n: usize, r: &[u8]) -> bool
+    requires { ⌜ at + n ≤ length (now r) ⌝ }
+    ensures { λ b. ⌜ b ≡ within limit at n (now (r .entry)) ⌝ }
+{
+    let end = at + n;
+    !marks::has_above(limit, &r[at..end])
+}
+
 // The length, marks and flags of 0 or 1, and zero where zero stands.
 fn is_shaped(r: &[u8]) -> bool
     ensures { λ b. ⌜ b ≡ shaped (now (r .entry)) ⌝ }
 {
     if r.len() == 160 {
-        if marks::has_above(1, &r[64..80]) {
-            return false;
-        }
-        if marks::has_above(1, &r[88..91]) {
-            return false;
-        }
-        if marks::has_above(0, &r[91..92]) {
-            return false;
-        }
-        if marks::has_above(0, &r[132..160]) {
-            return false;
-        }
-        return true;
+        let ones = both(is_within(1, 64, 16, r), is_within(1, 88, 3, r));
+        let gap = both(ones, is_within(0, 91, 1, r));
+        return both(gap, is_within(0, 132, 28, r));
     }
     false
 }
