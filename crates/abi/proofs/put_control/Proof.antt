@@ -31,7 +31,14 @@ same-length : tie.Need-same-length
 same-length c = search needs
 
 returns : tie.Need-returns
-returns c = rw (c .before .before .put-flags2 .ensures, c .before .before .before .before .before .before .before .put-words2 .ensures, c .before .before .before .before .before .before .before .before .before .before .before .before .put-flags .ensures, c .before .before .before .before .before .before .before .before .before .before .before .before .before .before .before .before .before .put-words .ensures) (control-written _ _ _)
+returns c =
+    let fourth = c .before .before in
+    let third = fourth .before .before .before .before .before in
+    let second = third .before .before .before .before .before in
+    let first = second .before .before .before .before .before in
+    let args = first .before .before .before .before .args in
+    rw (fourth .put-flags2 .ensures, third .put-words2 .ensures, second .put-flags .ensures, first .put-words .ensures)
+    (control-written (args .r .now) (args .f) (args .c))
 
 pub put-control-spec : {M : Type 1} → statement M
 put-control-spec =
