@@ -1,0 +1,85 @@
+/*
+ * Pushvratem: a proved reference model of the MANIK core, as a C library.
+ *
+ * `rt staticlib abi` writes the library, target/staticlib/libabi.a, for x86-64 Linux. It needs nothing but itself: it calls
+ * no function, keeps nothing between calls, and reads and writes only what a call lends it. So calls on different buffers may
+ * run in different threads at the same time.
+ *
+ * "The rules" below is document 01. What manik_run answers is the definition `called` of crates/abi/specs/Call.antt; the
+ * function is proved equal to it for every input.
+ */
+#ifndef MANIK_H
+#define MANIK_H
+
+#include <stddef.h>
+#include <stdint.h>
+
+#ifdef __cplusplus
+extern "C" {
+#endif
+
+/*
+ * The state is a record of 160 bytes. A word is 4 bytes, the highest first. A mark or a flag is one byte, 0 or 1.
+ * The fresh state is all zero, but for HWDBG (SFR 6), which is 3.
+ */
+#define MANIK_STATE_SIZE 160
+
+#define MANIK_AT_REGISTERS 0 /* r0 to r15, a word each */
+#define MANIK_AT_MARKS 64    /* their marks, a byte each */
+#define MANIK_AT_PC 80       /* the program counter, a word */
+#define MANIK_AT_PSW 84      /* PSW, a word */
+#define MANIK_AT_TF_MARK 88  /* the mark of TF */
+#define MANIK_AT_CY_MARK 89  /* the mark of CY */
+#define MANIK_AT_PENDING 90  /* the flag "timer pending" */
+                             /* 91: zero */
+#define MANIK_AT_SFR1 92     /* SFR 1 to 10, a word each: RA, IPC, TIMER, IBASE, USREG, HWDBG, BP0, BP1, WP0, WP1 */
+                             /* 132 to 159: zero */
+
+/* What manik_run returns: the rules' reply numbers, and 0. */
+enum manik_reply {
+    MANIK_NO_RECORD = 0,       /* `state` is no record: see manik_run */
+    MANIK_MEMORY_LENGTH = 1,   /* memory length is 0, above 65,536, or no multiple of 4 */
+    MANIK_MARK_LENGTH = 2,     /* mark slice of another length */
+    MANIK_MARK_BYTE = 3,       /* a mark byte above 1 */
+    MANIK_FORM = 4,            /* state out of form */
+    MANIK_TAPE_LENGTH = 5,     /* tape shorter than the budget */
+    MANIK_TAPE_BYTE = 6,       /* a byte above 63 among the first `budget` tape bytes */
+    MANIK_BUDGET = 10,         /* budget used up */
+    MANIK_FETCH_OUTSIDE = 11,  /* instruction fetch outside memory */
+    MANIK_FETCH_MARKED = 12,   /* instruction fetch from a marked byte */
+    MANIK_NO_INSTRUCTION = 13, /* bits that are no instruction */
+    MANIK_MARKED_OPERAND = 14, /* a marked operand where none may be */
+    MANIK_DATA_OUTSIDE = 15    /* load or store outside memory */
+};
+
+/*
+ * Runs at most `budget` steps.
+ *
+ *   state   the record; read, and written back
+ *   mem     the memory image; its address 0 is mem[0]
+ *   marks   a mark for each byte of memory
+ *   tape    the interrupt lines, a byte for each step, bit i for line i
+ *   steps   takes the number of completed steps
+ *
+ * Returns one of enum manik_reply.
+ *
+ *   0         `state` has another length than 160, a mark or flag byte above 1, or a byte that is not zero where zero stands.
+ *             *steps is 0, and nothing else changes.
+ *   1 to 6    the run was refused. *steps is 0, and nothing else changes.
+ *   10 to 15  the run ended. *steps, state, mem and marks are what the completed steps made; the step that stopped changed
+ *             nothing. The record is one that the next call takes.
+ *
+ * The caller sees to what no contract can say in C: every pointer is valid for its length and not null, even where the length
+ * is 0; `steps` is aligned; state, mem, marks and *steps overlap neither each other nor the tape.
+ */
+uint32_t manik_run(uint8_t *state, size_t state_len,
+                   uint8_t *mem, size_t mem_len,
+                   uint8_t *marks, size_t marks_len,
+                   const uint8_t *tape, size_t tape_len,
+                   uint64_t budget, uint64_t *steps);
+
+#ifdef __cplusplus
+}
+#endif
+
+#endif
