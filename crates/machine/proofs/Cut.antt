@@ -26,7 +26,7 @@ use Rattle.marks.specs.declared.Flags.{Flags}
 use Rattle.marks.specs.declared.Taint.{Taint}
 use Rattle.machine.specs.State.{numberOf, valueAt}
 use Rattle.machine.specs.Fetch.{found, halfAt, secondOf, isLongKind, restOf, fetchOf}
-use Rattle.machine.specs.Step.{chosen, outside, loadedFrom, loadedMark, operandMarked, actOf, actOut, instrTurn, fetchTurn, eventTurn, turnOf, after}
+use Rattle.machine.specs.Step.{chosen, outside, loadedFrom, loadedMark, operandMarked, actOf, actOut, instrStep, fetchStep, eventStep, stepOf, after}
 use Rattle.machine.specs.Run.{Final, goOn, stepsOf}
 use Rattle.machine.specs.Cut.{resume}
 use Rattle.machine.specs.declared.State.{State}
@@ -94,21 +94,21 @@ acts-ok i x y f c m k =
     act-ok (operandMarked i y f) (outside r m) (exec i (x .value) (y .value) (loadedFrom r m) c)
     (taint i (x .mark) (y .mark) (loadedMark r k) (tf c) f) r c
 
-turn-by : (x : Fetched) (s : State) (m k : List ℕ) → FetchOk x → OutOk (fetchTurn x s m k .out)
-unfolding instrTurn
-turn-by (Fetched.Stop r) s m k p = p
-turn-by (Fetched.Run i) s m k p =
+step-by : (x : Fetched) (s : State) (m k : List ℕ) → FetchOk x → OutOk (fetchStep x s m k .out)
+unfolding instrStep
+step-by (Fetched.Stop r) s m k p = p
+step-by (Fetched.Run i) s m k p =
     acts-ok i (valueAt s (cpu.operandsOf i .first)) (valueAt s (cpu.operandsOf i .second)) (s .flags) (s .control) m k
 
-event-ok : (e : Event) (s : State) (m k : List ℕ) → OutOk (eventTurn e s m k .out)
+event-ok : (e : Event) (s : State) (m k : List ℕ) → OutOk (eventStep e s m k .out)
 event-ok Event.Timer s m k = tt
 event-ok (Event.Line i) s m k = tt
 event-ok Event.Break s m k = tt
-event-ok Event.Instruction s m k = turn-by (fetchOf (s .control .pc) m k) s m k (fetch-ok (s .control .pc) m k)
+event-ok Event.Instruction s m k = step-by (fetchOf (s .control .pc) m k) s m k (fetch-ok (s .control .pc) m k)
 
-turn-ok : (t : ℕ) (s : State) (m k : List ℕ) → OutOk (turnOf t s m k .out)
-unfolding turnOf
-turn-ok t s m k = event-ok (chosen t (s .control)) s m k
+step-ok : (t : ℕ) (s : State) (m k : List ℕ) → OutOk (stepOf t s m k .out)
+unfolding stepOf
+step-ok t s m k = event-ok (chosen t (s .control)) s m k
 
 -- the step that stops, and the step that goes on
 resume-on : (b : ℕ) (t : List ℕ) (more rest : State → List ℕ → List ℕ → Final) (i : ℕ) (s : State) (o : Out) (m k : List ℕ) → OutOk o
@@ -125,5 +125,5 @@ cut zero b i t s m k =
 cut (suc a) b i t s m k =
     let e : suc a + b ≡ suc (a + b) = omega arith in
     ap (λ (n : ℕ). stepsOf n i t s m k) e
-    ∙ resume-on b t (stepsOf (a + b) (i + 1) t) (stepsOf a (i + 1) t) i s (turnOf (getD t i 0) s m k .out) _ _ (turn-ok (getD t i 0) s m k)
+    ∙ resume-on b t (stepsOf (a + b) (i + 1) t) (stepsOf a (i + 1) t) i s (stepOf (getD t i 0) s m k .out) _ _ (step-ok (getD t i 0) s m k)
     (λ u. cut a b (i + 1) t u _ _)

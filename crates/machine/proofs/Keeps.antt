@@ -30,7 +30,7 @@ use Rattle.marks.specs.declared.Taint.{Taint}
 use Rattle.machine.specs.Form.{Form}
 use Rattle.machine.specs.State.{valueAt}
 use Rattle.machine.specs.Fetch.{fetchOf}
-use Rattle.machine.specs.Step.{chosen, outside, watchedBy, loadedFrom, loadedMark, operandMarked, actOf, doneOf, actOut, instrTurn, fetchTurn, eventTurn, turnOf, after}
+use Rattle.machine.specs.Step.{chosen, outside, watchedBy, loadedFrom, loadedMark, operandMarked, actOf, doneOf, actOut, instrStep, fetchStep, eventStep, stepOf, after}
 use Rattle.machine.specs.Run.{Final, goOn, stepsOf, judge, judged, runOf}
 use Rattle.machine.specs.declared.State.{State}
 use Rattle.machine.specs.declared.Val.{Val}
@@ -344,20 +344,20 @@ acts i x y f c m k g =
     c
     (executes c g i (x .value) (y .value) (loadedFrom r m))
 
-fetches : (x : Fetched) (s : State) (m k : List ℕ) → Form (s .control) → Kept (fetchTurn x s m k .out)
-unfolding instrTurn
+fetches : (x : Fetched) (s : State) (m k : List ℕ) → Form (s .control) → Kept (fetchStep x s m k .out)
+unfolding instrStep
 fetches (Fetched.Stop r) s m k f = tt
 fetches (Fetched.Run i) s m k f = acts i (valueAt s (operandsOf i .first)) (valueAt s (operandsOf i .second)) (s .flags) (s .control) m k f
 
-turns : (e : Event) (s : State) (m k : List ℕ) → Form (s .control) → Kept (eventTurn e s m k .out)
-turns Event.Timer s m k f = falls _ (timers (s .control) f) (on (s .control .psw) 4)
-turns (Event.Line i) s m k f = falls _ (externals (s .control) f i) (on (s .control .psw) 4)
-turns Event.Break s m k f = falls _ (debugs (s .control) f 1) (on (s .control .psw) 4)
-turns Event.Instruction s m k f = fetches (fetchOf (s .control .pc) m k) s m k f
+event-keeps : (e : Event) (s : State) (m k : List ℕ) → Form (s .control) → Kept (eventStep e s m k .out)
+event-keeps Event.Timer s m k f = falls _ (timers (s .control) f) (on (s .control .psw) 4)
+event-keeps (Event.Line i) s m k f = falls _ (externals (s .control) f i) (on (s .control .psw) 4)
+event-keeps Event.Break s m k f = falls _ (debugs (s .control) f 1) (on (s .control .psw) 4)
+event-keeps Event.Instruction s m k f = fetches (fetchOf (s .control .pc) m k) s m k f
 
-pub turn-keeps : (t : ℕ) (s : State) (m k : List ℕ) → Form (s .control) → Kept (turnOf t s m k .out)
-unfolding turnOf
-turn-keeps t s m k f = turns (chosen t (s .control)) s m k f
+pub step-keeps : (t : ℕ) (s : State) (m k : List ℕ) → Form (s .control) → Kept (stepOf t s m k .out)
+unfolding stepOf
+step-keeps t s m k f = event-keeps (chosen t (s .control)) s m k f
 
 -- every run
 goes-on : (rest : State → List ℕ → List ℕ → Final) (n : ℕ) (s : State) (o : Out) (m k : List ℕ) → Form (s .control) → Kept o
@@ -370,7 +370,7 @@ pub steps-keep : (b n : ℕ) (t : List ℕ) (s : State) (m k : List ℕ) → For
 unfolding stepsOf
 steps-keep zero n t s m k f = f
 steps-keep (suc b) n t s m k f =
-    goes-on (stepsOf b (n + 1) t) n s (turnOf (getD t n 0) s m k .out) _ _ f (turn-keeps (getD t n 0) s m k f) (λ u g. steps-keep b (n + 1) t u _ _ g)
+    goes-on (stepsOf b (n + 1) t) n s (stepOf (getD t n 0) s m k .out) _ _ f (step-keeps (getD t n 0) s m k f) (λ u g. steps-keep b (n + 1) t u _ _ g)
 
 judged-keeps : (j : Judged) (b : ℕ) (t : List ℕ) (s : State) (m k : List ℕ) → Form (s .control) → Form (judged j b t s m k .ended .state .control)
 judged-keeps (Judged.Refused r) b t s m k f = f

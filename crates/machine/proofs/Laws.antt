@@ -25,7 +25,7 @@ use Rattle.cpu.specs.Entries.{isBreak}
 use Rattle.cpu.specs.declared.Control.{Control}
 use Rattle.marks.specs.Memory.{anyAbove, badMark}
 use Rattle.machine.specs.State.{stateOf, outOfForm}
-use Rattle.machine.specs.Step.{lowest, chosen, turnOf, after}
+use Rattle.machine.specs.Step.{lowest, chosen, stepOf, after}
 use Rattle.machine.specs.Run.{Final, final, goOn, stepsOf, judge, badLength}
 use Rattle.machine.specs.declared.State.{State}
 use Rattle.machine.specs.declared.Reply.{Reply}
@@ -149,9 +149,9 @@ module _ (b n : ℕ) (t : List ℕ) (s : State) (m k : List ℕ) where
   pub steps-all : stepsOf (b - 0) 0 t s m k ≡ stepsOf b 0 t s m k
   steps-all = ap (λ (x : ℕ). stepsOf x 0 t s m k) (omega arith)
 
-  pub steps-go : (d : Done) → n < b → turnOf (getD t n 0) s m k .out ≡ Out.Go d
+  pub steps-go : (d : Done) → n < b → stepOf (getD t n 0) s m k .out ≡ Out.Go d
       → stepsOf (b - n) n t s m k
-      ≡ stepsOf (b - (n + 1)) (n + 1) t (after d s) (turnOf (getD t n 0) s m k .mem) (turnOf (getD t n 0) s m k .marks)
+      ≡ stepsOf (b - (n + 1)) (n + 1) t (after d s) (stepOf (getD t n 0) s m k .mem) (stepOf (getD t n 0) s m k .marks)
   unfolding stepsOf goOn
   steps-go d h o =
       let e : b - n ≡ suc (b - (n + 1)) = omega arith in
@@ -159,17 +159,17 @@ module _ (b n : ℕ) (t : List ℕ) (s : State) (m k : List ℕ) where
 
   -- the same of a state in its parts, as the loop has them
   pub steps-next : (d : Done) (f : Final) (regs : List ℕ) (tags : List Bool) (m′ k′ : List ℕ) → n < b
-      → turnOf (getD t n 0) s m k .out ≡ Out.Go d
+      → stepOf (getD t n 0) s m k .out ≡ Out.Go d
       → regs ≡ set (s .regs) (d .reg) (d .value)
       → tags ≡ set (s .marks) (d .reg) (d .mark)
-      → (m′ ≡ turnOf (getD t n 0) s m k .mem) × (k′ ≡ turnOf (getD t n 0) s m k .marks)
+      → (m′ ≡ stepOf (getD t n 0) s m k .mem) × (k′ ≡ stepOf (getD t n 0) s m k .marks)
       → stepsOf (b - n) n t s m k ≡ f
       → stepsOf (b - (n + 1)) (n + 1) t (stateOf regs tags (d .flags) (d .control)) m′ k′ ≡ f
   unfolding after
   steps-next d f regs tags m′ k′ h o v w g e = rw (v, w, g .0, g .1) (sym (steps-go d h o) ∙ e)
 
-  pub steps-stop : (r : Reply) → n < b → turnOf (getD t n 0) s m k .out ≡ Out.Stop r
-      → stepsOf (b - n) n t s m k ≡ final r n s (turnOf (getD t n 0) s m k .mem) (turnOf (getD t n 0) s m k .marks)
+  pub steps-stop : (r : Reply) → n < b → stepOf (getD t n 0) s m k .out ≡ Out.Stop r
+      → stepsOf (b - n) n t s m k ≡ final r n s (stepOf (getD t n 0) s m k .mem) (stepOf (getD t n 0) s m k .marks)
   unfolding stepsOf goOn
   steps-stop r h o =
       let e : b - n ≡ suc (b - (n + 1)) = omega arith in

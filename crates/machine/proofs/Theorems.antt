@@ -13,7 +13,7 @@ use Rattle.cpu.specs.Exec.{operandsOf}
 use Rattle.machine.specs.State.{valueAt, outOfForm}
 use Rattle.machine.specs.Form.{Form}
 use Rattle.machine.specs.Fetch.{fetchOf}
-use Rattle.machine.specs.Step.{chosen, actOf, actOut, actMem, actMarks, instrTurn, fetchTurn, eventTurn, turnOf}
+use Rattle.machine.specs.Step.{chosen, actOf, actOut, actMem, actMarks, instrStep, fetchStep, eventStep, stepOf}
 use Rattle.machine.specs.Run.{Final, final, stepsOf, judge, runOf}
 use Rattle.machine.specs.declared.State.{State}
 use Rattle.machine.specs.declared.Val.{Val}
@@ -39,24 +39,24 @@ act-stops : (a : Act) (x : Val) (c : Control) (m k : List ℕ) (r : Reply) → a
 act-stops (Act.Stop q) x c m k r e = (refl, refl)
 act-stops (Act.Does e t q) x c m k r g = let z : _≡_ {A = ℕ} 0 1 = cc in absurd (omega arith)
 
-fetch-stops : (x : Fetched) (s : State) (m k : List ℕ) (r : Reply) → fetchTurn x s m k .out ≡ Out.Stop r
-    → (fetchTurn x s m k .mem ≡ m) × (fetchTurn x s m k .marks ≡ k)
-unfolding instrTurn
+fetch-stops : (x : Fetched) (s : State) (m k : List ℕ) (r : Reply) → fetchStep x s m k .out ≡ Out.Stop r
+    → (fetchStep x s m k .mem ≡ m) × (fetchStep x s m k .marks ≡ k)
+unfolding instrStep
 fetch-stops (Fetched.Stop q) s m k r e = (refl, refl)
 fetch-stops (Fetched.Run i) s m k r e =
     let x : Val = valueAt s (operandsOf i .first) in
     act-stops (actOf i x (valueAt s (operandsOf i .second)) (s .flags) (s .control) m k) x (s .control) m k r e
 
-event-stops : (v : Event) (s : State) (m k : List ℕ) (r : Reply) → eventTurn v s m k .out ≡ Out.Stop r
-    → (eventTurn v s m k .mem ≡ m) × (eventTurn v s m k .marks ≡ k)
+event-stops : (v : Event) (s : State) (m k : List ℕ) (r : Reply) → eventStep v s m k .out ≡ Out.Stop r
+    → (eventStep v s m k .mem ≡ m) × (eventStep v s m k .marks ≡ k)
 event-stops Event.Timer s m k r e = (refl, refl)
 event-stops (Event.Line i) s m k r e = (refl, refl)
 event-stops Event.Break s m k r e = (refl, refl)
 event-stops Event.Instruction s m k r e = fetch-stops (fetchOf (s .control .pc) m k) s m k r e
 
-pub stop-changes-nothing : (t : ℕ) (s : State) (m k : List ℕ) (r : Reply) → turnOf t s m k .out ≡ Out.Stop r
-    → (turnOf t s m k .mem ≡ m) × (turnOf t s m k .marks ≡ k)
-unfolding turnOf
+pub stop-changes-nothing : (t : ℕ) (s : State) (m k : List ℕ) (r : Reply) → stepOf t s m k .out ≡ Out.Stop r
+    → (stepOf t s m k .mem ≡ m) × (stepOf t s m k .marks ≡ k)
+unfolding stepOf
 stop-changes-nothing t s m k r e = event-stops (chosen t (s .control)) s m k r e
 
 -- 3. Every returned state is in form if the given one was; so the program counter never becomes odd.

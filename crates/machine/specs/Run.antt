@@ -7,7 +7,7 @@ use lib.Dec.{ltb, eqb}
 use lib.ListN.{length, getD, take}
 use Rattle.marks.specs.Memory.{anyAbove, badMark}
 use Rattle.machine.specs.State.{outOfForm}
-use Rattle.machine.specs.Step.{turnOf, after}
+use Rattle.machine.specs.Step.{stepOf, after}
 use Rattle.machine.specs.declared.State.{State}
 use Rattle.machine.specs.declared.Reply.{Reply}
 use Rattle.machine.specs.declared.Judged.{Judged}
@@ -46,7 +46,7 @@ goOn rest n s (Out.Go d) m k = rest (after d s) m k
 unfoldable pub stepsOf : ℕ → ℕ → List ℕ → State → List ℕ → List ℕ → Final
 stepsOf zero n t s m k = final Reply.Budget n s m k
 stepsOf (suc b) n t s m k =
-    goOn (stepsOf b (n + 1) t) n s (turnOf (getD t n 0) s m k .out) (turnOf (getD t n 0) s m k .mem) (turnOf (getD t n 0) s m k .marks)
+    goOn (stepsOf b (n + 1) t) n s (stepOf (getD t n 0) s m k .out) (stepOf (getD t n 0) s m k .mem) (stepOf (getD t n 0) s m k .marks)
 
 -- "Replies 1 to 6 return steps 0 and leave state, memory and marks as given"
 abbrev pub judged : Judged → ℕ → List ℕ → State → List ℕ → List ℕ → Final

@@ -124,20 +124,20 @@ doneOf c e t r =
 
 -- ---- the step
 
-pub record Turn : Type 0 where
+pub record Stepped : Type 0 where
   pub out : Out
   pub mem : List ℕ
   pub marks : List ℕ
 
-abbrev pub stopTurn : Reply → List ℕ → List ℕ → Turn
-stopTurn r m k = record { out = Out.Stop r; mem = m; marks = k }
+abbrev pub stopStep : Reply → List ℕ → List ℕ → Stepped
+stopStep r m k = record { out = Out.Stop r; mem = m; marks = k }
 
 -- an entry changes the control part, and the timer falls
 abbrev pub entryOut : Control → Flags → Control → Out
 entryOut e f c = Out.Go (record { control = fallen (on (c .psw) 4) e; flags = f; reg = 16; value = 0; mark = false })
 
-abbrev pub entryTurn : Control → State → List ℕ → List ℕ → Turn
-entryTurn e s m k = record { out = entryOut e (s .flags) (s .control); mem = m; marks = k }
+abbrev pub entryStep : Control → State → List ℕ → List ℕ → Stepped
+entryStep e s m k = record { out = entryOut e (s .flags) (s .control); mem = m; marks = k }
 
 -- an instruction, x what it may store
 abbrev pub actOut : Act → Control → Out
@@ -152,30 +152,30 @@ abbrev pub actMarks : Act → Val → List ℕ → List ℕ
 actMarks (Act.Stop r) x k = k
 actMarks (Act.Does e t r) x k = markedTo r (x .mark) k
 
-abbrev pub actTurn : Act → Val → State → List ℕ → List ℕ → Turn
-actTurn a x s m k = record { out = actOut a (s .control); mem = actMem a x m; marks = actMarks a x k }
+abbrev pub actStep : Act → Val → State → List ℕ → List ℕ → Stepped
+actStep a x s m k = record { out = actOut a (s .control); mem = actMem a x m; marks = actMarks a x k }
 
-unfoldable pub instrTurn : Instr → State → List ℕ → List ℕ → Turn
-instrTurn i s m k =
-    actTurn
+unfoldable pub instrStep : Instr → State → List ℕ → List ℕ → Stepped
+instrStep i s m k =
+    actStep
     (actOf i (valueAt s (operandsOf i .first)) (valueAt s (operandsOf i .second)) (s .flags) (s .control) m k)
     (valueAt s (operandsOf i .first))
     s
     m
     k
 
-abbrev pub fetchTurn : Fetched → State → List ℕ → List ℕ → Turn
-fetchTurn (Fetched.Stop r) s m k = stopTurn r m k
-fetchTurn (Fetched.Run i) s m k = instrTurn i s m k
+abbrev pub fetchStep : Fetched → State → List ℕ → List ℕ → Stepped
+fetchStep (Fetched.Stop r) s m k = stopStep r m k
+fetchStep (Fetched.Run i) s m k = instrStep i s m k
 
-abbrev pub eventTurn : Event → State → List ℕ → List ℕ → Turn
-eventTurn Event.Timer s m k = entryTurn (timerEntry (s .control)) s m k
-eventTurn (Event.Line i) s m k = entryTurn (externalEntry i (s .control)) s m k
-eventTurn Event.Break s m k = entryTurn (debugEntry 1 (s .control)) s m k
-eventTurn Event.Instruction s m k = fetchTurn (fetchOf (s .control .pc) m k) s m k
+abbrev pub eventStep : Event → State → List ℕ → List ℕ → Stepped
+eventStep Event.Timer s m k = entryStep (timerEntry (s .control)) s m k
+eventStep (Event.Line i) s m k = entryStep (externalEntry i (s .control)) s m k
+eventStep Event.Break s m k = entryStep (debugEntry 1 (s .control)) s m k
+eventStep Event.Instruction s m k = fetchStep (fetchOf (s .control .pc) m k) s m k
 
-unfoldable pub turnOf : ℕ → State → List ℕ → List ℕ → Turn
-turnOf t s m k = eventTurn (chosen t (s .control)) s m k
+unfoldable pub stepOf : ℕ → State → List ℕ → List ℕ → Stepped
+stepOf t s m k = eventStep (chosen t (s .control)) s m k
 
 -- the state after a completed step
 unfoldable pub after : Done → State → State

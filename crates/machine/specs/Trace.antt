@@ -12,7 +12,7 @@ use Rattle.cpu.specs.declared.Reach.{Reach}
 use Rattle.isa.specs.declared.Instr.{Instr}
 use Rattle.machine.specs.State.{valueAt}
 use Rattle.machine.specs.Fetch.{fetchOf}
-use Rattle.machine.specs.Step.{chosen, actOf, turnOf, after}
+use Rattle.machine.specs.Step.{chosen, actOf, stepOf, after}
 use Rattle.machine.specs.declared.State.{State}
 use Rattle.machine.specs.declared.Event.{Event}
 use Rattle.machine.specs.declared.Fetched.{Fetched}
@@ -89,6 +89,6 @@ unfoldable pub traceOf : ℕ → ℕ → List ℕ → State → List ℕ → Lis
 traceOf zero n t s m k = []
 traceOf (suc b) n t s m k =
     traceOn (traceOf b (n + 1) t) (seenOf (getD t n 0) s m k) s
-    (turnOf (getD t n 0) s m k .out)
-    (turnOf (getD t n 0) s m k .mem)
-    (turnOf (getD t n 0) s m k .marks)
+    (stepOf (getD t n 0) s m k .out)
+    (stepOf (getD t n 0) s m k .mem)
+    (stepOf (getD t n 0) s m k .marks)

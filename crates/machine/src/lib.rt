@@ -12,7 +12,7 @@ ghost use Rattle.cpu.specs.declared.Reach.{Reach};
 ghost use Rattle.marks.specs.Marks.{with};
 ghost use Rattle.machine.specs.State.{numberOf, freshState, stateOf, valueIn, outOfForm};
 ghost use Rattle.machine.specs.Fetch.{found, halfAt, secondHalf, isLongKind, restOf, fetchOf};
-ghost use Rattle.machine.specs.Step.{lowest, orBreak, lineOr, chosen, storedTo, markedTo, watchedBy, loadAct, storeAct, actOf, doneOf, actOut, actMem, actMarks, instrTurn, entryOut, turnOf};
+ghost use Rattle.machine.specs.Step.{lowest, orBreak, lineOr, chosen, storedTo, markedTo, watchedBy, loadAct, storeAct, actOf, doneOf, actOut, actMem, actMarks, instrStep, entryOut, stepOf};
 ghost use Rattle.machine.specs.Run.{badLength, judge, stepsOf, runOf};
 use cpu::Control;
 use cpu::Effect;
@@ -580,7 +580,7 @@ fn write_at(r: Reach, x: Val, m: &mut [u8], mk: &mut [u8])
     }
 }
 
-fn act_turn(a: Act, x: Val, c: Control, m: &mut [u8], mk: &mut [u8]) -> Out
+fn act_step(a: Act, x: Val, c: Control, m: &mut [u8], mk: &mut [u8]) -> Out
     ensures { λ r. ⌜ r ≡ actOut a c ⌝ }
     ensures { λ _. ⌜ now (m .exit) ≡ actMem a x (now (m .entry)) ⌝ }
     ensures { λ _. ⌜ now (mk .exit) ≡ actMarks a x (now (mk .entry)) ⌝ }
@@ -594,7 +594,7 @@ fn act_turn(a: Act, x: Val, c: Control, m: &mut [u8], mk: &mut [u8]) -> Out
     }
 }
 
-fn instr_turn(
+fn instr_step(
     i: Instr,
     regs: [u32; 16],
     marks: [bool; 16],
@@ -603,16 +603,16 @@ fn instr_turn(
     m: &mut [u8],
     mk: &mut [u8],
 ) -> Out
-    ensures { λ r. ⌜ r ≡ instrTurn i (stateOf regs marks flags c) (now (m .entry)) (now (mk .entry)) .out ⌝ }
-    ensures { λ _. ⌜ now (m .exit) ≡ instrTurn i (stateOf regs marks flags c) (now (m .entry)) (now (mk .entry)) .mem ⌝ }
-    ensures { λ _. ⌜ now (mk .exit) ≡ instrTurn i (stateOf regs marks flags c) (now (m .entry)) (now (mk .entry)) .marks ⌝ }
+    ensures { λ r. ⌜ r ≡ instrStep i (stateOf regs marks flags c) (now (m .entry)) (now (mk .entry)) .out ⌝ }
+    ensures { λ _. ⌜ now (m .exit) ≡ instrStep i (stateOf regs marks flags c) (now (m .entry)) (now (mk .entry)) .mem ⌝ }
+    ensures { λ _. ⌜ now (mk .exit) ≡ instrStep i (stateOf regs marks flags c) (now (m .entry)) (now (mk .entry)) .marks ⌝ }
 {
     let o = cpu::operands_of(i);
     let r = read(regs, marks, o.first, o.second);
     let x = r.first;
     let y = r.second;
     let a = act_on(i, x, y, flags, c, m, mk);
-    act_turn(a, x, c, m, mk)
+    act_step(a, x, c, m, mk)
 }
 
 fn enter(e: Control, flags: Flags, c: Control) -> Out
@@ -627,7 +627,7 @@ fn enter(e: Control, flags: Flags, c: Control) -> Out
     })
 }
 
-fn turn(
+fn step(
     t: u32,
     regs: [u32; 16],
     marks: [bool; 16],
@@ -636,9 +636,9 @@ fn turn(
     m: &mut [u8],
     mk: &mut [u8],
 ) -> Out
-    ensures { λ r. ⌜ r ≡ turnOf t (stateOf regs marks flags c) (now (m .entry)) (now (mk .entry)) .out ⌝ }
-    ensures { λ _. ⌜ now (m .exit) ≡ turnOf t (stateOf regs marks flags c) (now (m .entry)) (now (mk .entry)) .mem ⌝ }
-    ensures { λ _. ⌜ now (mk .exit) ≡ turnOf t (stateOf regs marks flags c) (now (m .entry)) (now (mk .entry)) .marks ⌝ }
+    ensures { λ r. ⌜ r ≡ stepOf t (stateOf regs marks flags c) (now (m .entry)) (now (mk .entry)) .out ⌝ }
+    ensures { λ _. ⌜ now (m .exit) ≡ stepOf t (stateOf regs marks flags c) (now (m .entry)) (now (mk .entry)) .mem ⌝ }
+    ensures { λ _. ⌜ now (mk .exit) ≡ stepOf t (stateOf regs marks flags c) (now (m .entry)) (now (mk .entry)) .marks ⌝ }
 {
     let e = choose(t, c);
     match e {
@@ -649,7 +649,7 @@ fn turn(
             let f = fetch(c.pc, m, mk);
             match f {
                 Fetched::Stop(r) => Out::Stop(r),
-                Fetched::Run(i) => instr_turn(i, regs, marks, flags, c, m, mk),
+                Fetched::Run(i) => instr_step(i, regs, marks, flags, c, m, mk),
             }
         }
     }
@@ -725,7 +725,7 @@ fn steps(b: usize, t: &[u8], s: State, m: &mut [u8], k: &mut [u8]) -> Ended
     let mut control = s.control;
     let mut n: usize = 0;
     while n < b {
-        let out = turn(wide(t[n]), regs, marks, flags, control, m, k);
+        let out = step(wide(t[n]), regs, marks, flags, control, m, k);
         match out {
             Out::Stop(reply) => {
                 let state = State {

@@ -22,7 +22,7 @@ use Rattle.marks.specs.Marks.{with}
 use Rattle.marks.specs.declared.Flags.{Flags}
 use Rattle.machine.specs.State.{valueAt}
 use Rattle.machine.specs.Fetch.{halfAt, secondOf, restOf, fetchOf}
-use Rattle.machine.specs.Step.{chosen, outside, loadedFrom, storedTo, actOf, doneOf, Turn, actTurn, instrTurn, fetchTurn, eventTurn, turnOf, after, stopTurn, entryTurn}
+use Rattle.machine.specs.Step.{chosen, outside, loadedFrom, storedTo, actOf, doneOf, Stepped, actStep, instrStep, fetchStep, eventStep, stepOf, after, stopStep, entryStep}
 use Rattle.machine.specs.Run.{Final, judge, goOn, stepsOf, judged, runOf}
 use Rattle.machine.specs.declared.State.{State}
 use Rattle.machine.specs.declared.Val.{Val}
@@ -43,8 +43,8 @@ unmarked s = record { regs = s .regs; marks = replicate 16 false; flags = none; 
 -- ---- one step
 
 -- a step of the one machine and of the other, from state s, memory m and mark slice k: both stop alike, or come to the same state and memory
-data Agree (s : Core) (m k : List ℕ) : Turn → Outcome → Type 0 where
-  stops : (r : Reply) → Agree s m k (stopTurn r m k) (stopped r)
+data Agree (s : Core) (m k : List ℕ) : Stepped → Outcome → Type 0 where
+  stops : (r : Reply) → Agree s m k (stopStep r m k) (stopped r)
   goes : (c : Control) (r v : ℕ) (l : List ℕ)
       → Agree s m k
       (record { out = Out.Go (record { control = c; flags = none; reg = r; value = v; mark = false }); mem = l; marks = k })
@@ -69,14 +69,14 @@ module _ (k : List ℕ) (z : (i : ℕ) → getD k i 0 ≡ 0) where
 
   does-same : (s : Core) (m : List ℕ) (u : Bool) (v : ℕ) (e : Effect) (r : Reach)
       → Agree s m k
-      (actTurn (cond u (Act.Stop Reply.DataOutside) (Act.Does e (with false none) r)) (record { value = v; mark = false }) (unmarked s) m k)
+      (actStep (cond u (Act.Stop Reply.DataOutside) (Act.Does e (with false none) r)) (record { value = v; mark = false }) (unmarked s) m k)
       (cond u (stopped Reply.DataOutside) (completed (changed s e r) (storedTo r v m)))
   unfolding doneOf changed
   does-same s m true v e r = stops Reply.DataOutside
   does-same s m false v e r = rw (marked-kept k z r) (goes _ _ _ _)
 
   act-same : (i : Instr) (x y : Val) (s : Core) (m : List ℕ) → x .mark ≡ false → y .mark ≡ false
-      → Agree s m k (actTurn (actOf i x y none (s .control) m k) x (unmarked s) m k)
+      → Agree s m k (actStep (actOf i x y none (s .control) m k) x (unmarked s) m k)
       (act i (x .value) (y .value) (reachOf i (y .value) (s .control)) s m)
   unfolding actOf act
   act-same i x y s m p q =
@@ -84,32 +84,32 @@ module _ (k : List ℕ) (z : (i : ℕ) → getD k i 0 ≡ 0) where
       rw (p, q, blocked-off i, loaded-off k z r, taint-off i (tf (s .control)))
       (does-same s m (outside r m) (x .value) (exec i (x .value) (y .value) (loadedFrom r m) (s .control)) r)
 
-  fetched-same : (x : Fetched) (s : Core) (m : List ℕ) → Agree s m k (fetchTurn x (unmarked s) m k) (onFetched x s m)
-  unfolding instrTurn perform
+  fetched-same : (x : Fetched) (s : Core) (m : List ℕ) → Agree s m k (fetchStep x (unmarked s) m k) (onFetched x s m)
+  unfolding instrStep perform
   fetched-same (Fetched.Stop r) s m = stops r
   fetched-same (Fetched.Run i) s m =
       act-same i (valueAt (unmarked s) (operandsOf i .first)) (valueAt (unmarked s) (operandsOf i .second)) s m
       (reg-off (operandsOf i .first))
       (reg-off (operandsOf i .second))
 
-  entry-same : (c : Control) (s : Core) (m : List ℕ) → Agree s m k (entryTurn c (unmarked s) m k) (entered c s m)
+  entry-same : (c : Control) (s : Core) (m : List ℕ) → Agree s m k (entryStep c (unmarked s) m k) (entered c s m)
   unfolding changed
   entry-same c s m = rw (and-true (on (s .control .psw) 4)) (goes _ _ _ _)
 
-  event-same : (v : Event) (s : Core) (m : List ℕ) → Agree s m k (eventTurn v (unmarked s) m k) (onEvent v s m)
+  event-same : (v : Event) (s : Core) (m : List ℕ) → Agree s m k (eventStep v (unmarked s) m k) (onEvent v s m)
   event-same Event.Timer s m = entry-same (timerEntry (s .control)) s m
   event-same (Event.Line i) s m = entry-same (externalEntry i (s .control)) s m
   event-same Event.Break s m = entry-same (debugEntry 1 (s .control)) s m
   event-same Event.Instruction s m = rw (fetch-same (s .control .pc) m) (fetched-same (fetch (s .control .pc) m) s m)
 
-  turn-same : (t : ℕ) (s : Core) (m : List ℕ) → Agree s m k (turnOf t (unmarked s) m k) (step t s m)
-  unfolding turnOf step
-  turn-same t s m = event-same (chosen t (s .control)) s m
+  step-same : (t : ℕ) (s : Core) (m : List ℕ) → Agree s m k (stepOf t (unmarked s) m k) (step t s m)
+  unfolding stepOf step
+  step-same t s m = event-same (chosen t (s .control)) s m
 
   -- ---- a run
 
   goes-on : (n : ℕ) (s : Core) (m : List ℕ) (further : State → List ℕ → List ℕ → Final) (plainly : Core → List ℕ → Result)
-      → ((u : Core) (l : List ℕ) → further (unmarked u) l k ≡ beside (plainly u l) (unmarked u) k) → (x : Turn) (o : Outcome) → Agree s m k x o
+      → ((u : Core) (l : List ℕ) → further (unmarked u) l k ≡ beside (plainly u l) (unmarked u) k) → (x : Stepped) (o : Outcome) → Agree s m k x o
       → goOn further n (unmarked s) (x .out) (x .mem) (x .marks) ≡ beside (goOnPlain plainly n s m o) (unmarked s) k
   unfolding goOn goOnPlain after
   goes-on n s m further plainly h x o (stops r) = refl
@@ -119,7 +119,7 @@ module _ (k : List ℕ) (z : (i : ℕ) → getD k i 0 ≡ 0) where
   unfolding stepsOf stepsFrom
   steps-same zero n t s m = refl
   steps-same (suc b) n t s m =
-      goes-on n s m (stepsOf b (n + 1) t) (stepsFrom b (n + 1) t) (λ u l. steps-same b (n + 1) t u l) _ _ (turn-same (getD t n 0) s m)
+      goes-on n s m (stepsOf b (n + 1) t) (stepsFrom b (n + 1) t) (λ u l. steps-same b (n + 1) t u l) _ _ (step-same (getD t n 0) s m)
 
   judge-same : (b : ℕ) (t : List ℕ) (s : Core) (m : List ℕ) → length k ≡ length m → judge b t (unmarked s) m k ≡ refusal b t s m
   unfolding judge refusal

@@ -14,7 +14,7 @@ use Rattle.cpu.specs.declared.Control.{Control}
 use Rattle.marks.specs.Memory.{anyAbove, badMark}
 use Rattle.marks.specs.declared.Flags.{Flags}
 use Rattle.machine.specs.State.{outOfForm}
-use Rattle.machine.specs.Step.{Turn, turnOf, after}
+use Rattle.machine.specs.Step.{Stepped, stepOf, after}
 use Rattle.machine.specs.Run.{Final, badLength, judge, goOn, stepsOf, judged, runOf}
 use Rattle.machine.specs.Trace.{Seen, seenOf, traceOn, traceOf}
 use Rattle.machine.specs.declared.State.{State}
@@ -37,9 +37,9 @@ is-like : (a c : State) → Same a c → like a c ≡ c
 is-like a c s = ap₂ (λ (k : List Bool) (f : Flags). record { regs = c .regs; marks = k; flags = f; control = c .control }) (s .marks) (s .flags)
 
 stepped : {a c : State} → Same a c → {k m n : List ℕ} → SameMem k m n → length m ≡ length k → (t : ℕ)
-    → SameStep (turnOf t a m k) (turnOf t c n k) (seenOf t a m k) (seenOf t c n k)
+    → SameStep (stepOf t a m k) (stepOf t c n k) (seenOf t a m k) (seenOf t c n k)
 stepped {a} {c} s {k} {m} {n} mem each t =
-    subst (λ (x : State). SameStep (turnOf t a m k) (turnOf t x n k) (seenOf t a m k) (seenOf t x n k)) (is-like a c s)
+    subst (λ (x : State). SameStep (stepOf t a m k) (stepOf t x n k) (seenOf t a m k) (seenOf t x n k)) (is-like a c s)
     (step-same (s .regs) (s .control) mem each t)
 
 after-regs : {k : List Bool} {a b : List ℕ} → SameList false k a b → length a ≡ length k → {d e : Done} → SameDone d e
@@ -78,8 +78,8 @@ pub steps-same : (b i : ℕ) (t : List ℕ) (a c : State) (m n k : List ℕ) →
 unfolding stepsOf
 steps-same zero i t a c m n k s mem each = record { reply = refl; steps = refl; state = s; marks = refl; mem = mem }
 steps-same (suc b) i t a c m n k s mem each =
-    let x : Turn = turnOf (getD t i 0) a m k in
-    let y : Turn = turnOf (getD t i 0) c n k in
+    let x : Stepped = stepOf (getD t i 0) a m k in
+    let y : Stepped = stepOf (getD t i 0) c n k in
     let w = stepped s mem each (getD t i 0) in
     subst (λ (l : List ℕ). SameFinal (goOn (stepsOf b (i + 1) t) i a (x .out) (x .mem) (x .marks)) (goOn (stepsOf b (i + 1) t) i c (y .out) (y .mem) l))
     (w .marks)
@@ -98,7 +98,7 @@ pub trace-same : (b i : ℕ) (t : List ℕ) (a c : State) (m n k : List ℕ) →
 unfolding traceOf
 trace-same zero i t a c m n k s mem each = refl
 trace-same (suc b) i t a c m n k s mem each =
-    let y : Turn = turnOf (getD t i 0) c n k in
+    let y : Stepped = stepOf (getD t i 0) c n k in
     let w = stepped s mem each (getD t i 0) in
     trace-on (traceOf b (i + 1) t) (trace-same b (i + 1) t) (w .seen) s (w .out) (w .mem) (w .each)
     ∙ ap (λ (l : List ℕ). traceOn (traceOf b (i + 1) t) (seenOf (getD t i 0) c n k) c (y .out) (y .mem) l) (w .marks)

@@ -25,7 +25,7 @@ use Rattle.marks.specs.Marks.{taint, blocked}
 use Rattle.marks.specs.declared.Flags.{Flags}
 use Rattle.marks.specs.declared.Taint.{Taint}
 use Rattle.machine.specs.Fetch.{found, halfAt, isLongKind, secondOf, restOf, fetchOf}
-use Rattle.machine.specs.Step.{Turn, lowest, chosen, outside, loadedFrom, loadedMark, storedTo, markedTo, watchedBy, actOf, doneOf, actTurn, instrTurn, fetchTurn, entryTurn, eventTurn, turnOf}
+use Rattle.machine.specs.Step.{Stepped, lowest, chosen, outside, loadedFrom, loadedMark, storedTo, markedTo, watchedBy, actOf, doneOf, actStep, instrStep, fetchStep, entryStep, eventStep, stepOf}
 use Rattle.machine.specs.State.{valueAt}
 use Rattle.machine.specs.Trace.{Seen, Entry, timer, external, debug, none, nowhere, at, entryBy, accessed, actSeen, fetchSeen, eventSeen, seenOf}
 use Rattle.machine.specs.declared.State.{State}
@@ -59,7 +59,7 @@ data SameAct : Act → Act → Type 0 where
   does : {e g : Effect} (t : Taint) (r : Reach) → SameEffect t e g → SameAct (Act.Does e t r) (Act.Does g t r)
 
 -- a step, and what it shows
-pub record SameStep (t u : Turn) (o q : List Seen) : Type 0 where
+pub record SameStep (t u : Stepped) (o q : List Seen) : Type 0 where
   pub out : SameOut (t .out) (u .out)
   pub marks : t .marks ≡ u .marks
   pub mem : SameMem (t .marks) (t .mem) (u .mem)
@@ -232,7 +232,7 @@ module _ {km : List Bool} {ra rb : List ℕ} (regs : SameList false km ra rb) {f
   -- ---- the step
 
   acted : {A B : Act} → SameAct A B → (i : Instr) (x : ℕ)
-      → SameStep (actTurn A (valueAt one x) one m k) (actTurn B (valueAt other x) other n k) (actSeen A i (a .pc)) (actSeen B i (b .pc))
+      → SameStep (actStep A (valueAt one x) one m k) (actStep B (valueAt other x) other n k) (actSeen A i (a .pc)) (actSeen B i (b .pc))
   acted (halts r) i x = record { out = stops r; marks = refl; mem = mem; each = each; seen = refl }
   acted (does t r e) i x =
       record {
@@ -243,13 +243,13 @@ module _ {km : List Bool} {ra rb : List ℕ} (regs : SameList false km ra rb) {f
         seen = ap (λ (o : Seen). o ∷ []) (accessed-same r i _ _ (e .control) (pc-same s));
       }
 
-  fetched : (x : Fetched) → SameStep (fetchTurn x one m k) (fetchTurn x other n k) (fetchSeen x one m k) (fetchSeen x other n k)
-  unfolding instrTurn
+  fetched : (x : Fetched) → SameStep (fetchStep x one m k) (fetchStep x other n k) (fetchSeen x one m k) (fetchSeen x other n k)
+  unfolding instrStep
   fetched (Fetched.Stop r) = record { out = stops r; marks = refl; mem = mem; each = each; seen = refl }
   fetched (Fetched.Run i) = acted (act-same i (operandsOf i .first) (operandsOf i .second)) i (operandsOf i .first)
 
   entered : (c d : Control) (x : Entry) → SameControl f c d
-      → SameStep (entryTurn c one m k) (entryTurn d other n k) (line (a .pc) x) (line (b .pc) x)
+      → SameStep (entryStep c one m k) (entryStep d other n k) (line (a .pc) x) (line (b .pc) x)
   entered c d x e =
       record {
         out = goes (record { control = falls e _ _ (bit-under (s .psw) 4 (lit≤ tt)); flags = refl; reg = refl; mark = refl; value = λ h. refl });
@@ -259,18 +259,18 @@ module _ {km : List Bool} {ra rb : List ℕ} (regs : SameList false km ra rb) {f
         seen = ap (λ (p : ℕ). line p x) (pc-same s);
       }
 
-  happened : (v : Event) → SameStep (eventTurn v one m k) (eventTurn v other n k) (eventSeen v one m k) (eventSeen v other n k)
+  happened : (v : Event) → SameStep (eventStep v one m k) (eventStep v other n k) (eventSeen v one m k) (eventSeen v other n k)
   happened Event.Timer = entered _ _ timer (timers s)
   happened (Event.Line i) = entered _ _ external (externals s i)
   happened Event.Break = entered _ _ debug (debugs s 1 1 refl)
   happened Event.Instruction =
-      subst (λ (x : Fetched). SameStep (fetchTurn (fetchOf (a .pc) m k) one m k) (fetchTurn x other n k) (fetchSeen (fetchOf (a .pc) m k) one m k) (fetchSeen x other n k))
+      subst (λ (x : Fetched). SameStep (fetchStep (fetchOf (a .pc) m k) one m k) (fetchStep x other n k) (fetchSeen (fetchOf (a .pc) m k) one m k) (fetchSeen x other n k))
       (ap (λ (p : ℕ). fetchOf p m k) (pc-same s) ∙ fetch-same mem each (b .pc))
       (fetched (fetchOf (a .pc) m k))
 
-  pub step-same : (t : ℕ) → SameStep (turnOf t one m k) (turnOf t other n k) (seenOf t one m k) (seenOf t other n k)
-  unfolding turnOf seenOf
+  pub step-same : (t : ℕ) → SameStep (stepOf t one m k) (stepOf t other n k) (seenOf t one m k) (seenOf t other n k)
+  unfolding stepOf seenOf
   step-same t =
-      subst (λ (v : Event). SameStep (eventTurn (chosen t a) one m k) (eventTurn v other n k) (eventSeen (chosen t a) one m k) (eventSeen v other n k))
+      subst (λ (v : Event). SameStep (eventStep (chosen t a) one m k) (eventStep v other n k) (eventSeen (chosen t a) one m k) (eventSeen v other n k))
       (chosen-same s t)
       (happened (chosen t a))

@@ -1,8 +1,8 @@
 use mathlib.Core.Path.{refl}
-use Rattle.machine.specs.Step.{turnOf}
+use Rattle.machine.specs.Step.{stepOf}
 use borrow.Author.Needs.{needs}
-use Rattle.machine.proofs.turn.Statement.{statement}
-use Rattle.machine.proofs.turn.Tie as tie
+use Rattle.machine.proofs.step.Statement.{statement}
+use Rattle.machine.proofs.step.Tie as tie
 
 choose-requires : tie.Need-choose-requires
 choose-requires c κs = search needs
@@ -46,19 +46,19 @@ enum-known-f c = search needs
 enum-known-f-2 : tie.Need-enum-known-f-2
 enum-known-f-2 c = search needs
 
-instr-turn-requires : tie.Need-instr-turn-requires
-instr-turn-requires c κs = search needs
+instr-step-requires : tie.Need-instr-step-requires
+instr-step-requires c κs = search needs
 
 returns : tie.Need-returns
-unfolding turnOf
+unfolding stepOf
 returns c = rw (← (c .before .before .before .before .choose .ensures), c .before .before .enum-told .given .1) (rw (c .enter .ensures, c .before .enter-timer .ensures), (refl, refl))
 
 returns-2 : tie.Need-returns-2
-unfolding turnOf
+unfolding stepOf
 returns-2 c = rw (← (c .before .before .before .before .before .choose .ensures), c .before .before .before .e .given .1) (rw (c .enter2 .ensures, c .before .enter-external .ensures), (refl, refl))
 
 returns-3 : tie.Need-returns-3
-unfolding turnOf
+unfolding stepOf
 returns-3 c = rw (← (c .before .before .before .before .choose .ensures), c .before .before .enum-told2 .given .1) (rw (c .enter3 .ensures, c .before .enter-debug .ensures), (refl, refl))
 
 same-length : tie.Need-same-length
@@ -68,7 +68,7 @@ same-length-2 : tie.Need-same-length-2
 same-length-2 c = search needs
 
 returns-4 : tie.Need-returns-4
-unfolding turnOf
+unfolding stepOf
 returns-4 c = rw (← (c .before .before .before .before .before .before .before .before .choose .ensures), c .before .before .before .before .before .before .enum-told3 .given .1, ← (c .before .before .before .fetch .ensures), c .before .f .given .1) (refl, (refl, refl))
 
 same-length-3 : tie.Need-same-length-3
@@ -78,11 +78,11 @@ same-length-4 : tie.Need-same-length-4
 same-length-4 c = search needs
 
 returns-5 : tie.Need-returns-5
-unfolding turnOf
-returns-5 c = rw (← (c .before .before .before .before .before .before .before .before .before .before .before .before .before .before .before .choose .ensures), c .before .before .before .before .before .before .before .before .before .before .before .before .before .enum-told3 .given .1, ← (c .before .before .before .before .before .before .before .before .before .before .fetch .ensures), c .before .before .before .before .before .before .before .before .f2 .given .1) (c .before .before .before .before .instr-turn .ensures)
+unfolding stepOf
+returns-5 c = rw (← (c .before .before .before .before .before .before .before .before .before .before .before .before .before .before .before .choose .ensures), c .before .before .before .before .before .before .before .before .before .before .before .before .before .enum-told3 .given .1, ← (c .before .before .before .before .before .before .before .before .before .before .fetch .ensures), c .before .before .before .before .before .before .before .before .f2 .given .1) (c .before .before .before .before .instr-step .ensures)
 
-pub turn-spec : {M : Type 1} → statement M
-turn-spec =
+pub step-spec : {M : Type 1} → statement M
+step-spec =
     tie.close
     (tie.spec
     choose-requires
@@ -99,7 +99,7 @@ turn-spec =
     fetch-requires
     enum-known-f
     enum-known-f-2
-    instr-turn-requires
+    instr-step-requires
     returns
     returns-2
     returns-3

@@ -1,7 +1,7 @@
 use mathlib.Core.Path.{refl}
 use borrow.Author.Needs.{needs}
-use Rattle.machine.proofs.act_turn.Statement.{statement}
-use Rattle.machine.proofs.act_turn.Tie as tie
+use Rattle.machine.proofs.act_step.Statement.{statement}
+use Rattle.machine.proofs.act_step.Tie as tie
 
 enum-known-a : tie.Need-enum-known-a
 enum-known-a c = search needs
@@ -27,8 +27,8 @@ same-length-2 c = search needs
 returns-2 : tie.Need-returns-2
 returns-2 c = rw (c .before .before .before .before .before .before .before .before .before .a2 .given .1) (rw (c .finish .ensures), c .before .before .before .before .before .write-at .ensures)
 
-pub act-turn-spec : {M : Type 1} → statement M
-act-turn-spec =
+pub act-step-spec : {M : Type 1} → statement M
+act-step-spec =
     tie.close
     (tie.spec
     enum-known-a
