@@ -1,4 +1,5 @@
 use mathlib.Core.Path.{refl, sym, _∙_}
+use native.Mathlib.Omega.{arith}
 use Rattle.machine.specs.Run.{runOf}
 use Rattle.machine.proofs.Laws.{long-tape}
 use borrow.Author.Needs.{needs}
@@ -15,7 +16,9 @@ enum-told : tie.Need-enum-told
 enum-told c = search needs
 
 steps-requires : tie.Need-steps-requires
-steps-requires c κs = long-tape _ _ _ _ _ (sym (c .before .before .before .before .judge-all .ensures) ∙ c .before .before .enum-told .given .1)
+steps-requires c κs =
+    let a = c .before .before .before .before .before .before .before .before .before .before .args in
+    omega (arith, long-tape (a .b) (a .t .now) (a .s) (a .m .now) (a .k .now) (sym (c .before .before .before .before .judge-all .ensures) ∙ c .before .before .enum-told .given .1))
 
 same-length : tie.Need-same-length
 same-length c = search needs
