@@ -4,7 +4,7 @@ use Prim.Native.Nat.{ℕ, zero, suc, _+_}
 use mathlib.Core.Path.{_≡_, refl, _∙_}
 use mathlib.Core.List.{List}
 use lib.ListN.{length, getD, length-set}
-use Rattle.machine.specs.Step.{turnOf, after}
+use Rattle.machine.specs.Step.{stepOf, after}
 use Rattle.machine.specs.Run.{Final, goOn, stepsOf, judge, judged, runOf}
 use Rattle.machine.specs.declared.State.{State}
 use Rattle.machine.specs.declared.Out.{Out}
@@ -28,7 +28,7 @@ steps-sixteen : (b n : ℕ) (t : List ℕ) (s : State) (m k : List ℕ) → Sixt
 unfolding stepsOf
 steps-sixteen zero n t s m k h = h
 steps-sixteen (suc b) n t s m k h =
-    goes-on (stepsOf b (n + 1) t) n s (turnOf (getD t n 0) s m k .out) _ _ h (λ u g. steps-sixteen b (n + 1) t u _ _ g)
+    goes-on (stepsOf b (n + 1) t) n s (stepOf (getD t n 0) s m k .out) _ _ h (λ u g. steps-sixteen b (n + 1) t u _ _ g)
 
 judged-sixteen : (j : Judged) (b : ℕ) (t : List ℕ) (s : State) (m k : List ℕ) → Sixteen s → Sixteen (judged j b t s m k .ended .state)
 judged-sixteen (Judged.Refused r) b t s m k h = h
