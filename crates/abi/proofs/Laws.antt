@@ -15,7 +15,7 @@ use lib.Seq.{sets, sets-eq, set-comm, getD-at, drop-at, getD-drop, take-all, tak
 use borrow.Author.Tests.{ltb-false}
 use Rattle.word.specs.Bits.{num}
 use Rattle.word.specs.Bytes.{load, store}
-use Rattle.marks.specs.Memory.{anyAbove}
+use Rattle.word.specs.Bytes.{anyAbove}
 use Rattle.abi.specs.Record.{each, bytes, laid, zeros, Bytes}
 
 -- ---- lengths

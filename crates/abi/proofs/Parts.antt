@@ -14,7 +14,7 @@ use Rattle.word.specs.Bits.{num}
 use Rattle.word.specs.Bytes.{load}
 use Rattle.cpu.specs.declared.Control.{Control}
 use Rattle.marks.specs.declared.Flags.{Flags}
-use Rattle.marks.specs.Memory.{anyAbove}
+use Rattle.word.specs.Bytes.{anyAbove}
 use Rattle.machine.specs.declared.State.{State}
 use Rattle.abi.specs.Record.{each, controlAt, stateAt, bytes, laid, words, flags, zeros, sfrsOf, controlPart, recordOf, within, shaped, Bytes}
 use Rattle.abi.proofs.Laws.{length-laid, sets-append, sets-whole, each-drop, each-laid, each-map, each-byte, laid-each, flags-back, bools-back, zeros-back, cut}

@@ -11,7 +11,7 @@ use Rattle.word.specs.Bytes.{loadOf}
 use Rattle.word.specs.declared.Width.{Width}
 use Rattle.cpu.specs.declared.Control.{Control}
 use Rattle.marks.specs.declared.Flags.{Flags}
-use Rattle.marks.specs.Memory.{anyAbove}
+use Rattle.word.specs.Bytes.{anyAbove}
 use Rattle.machine.specs.declared.State.{State}
 
 -- ---- a state from a record, by offset

@@ -151,18 +151,12 @@ fn put_state(r: &mut [u8], s: State)
 
 // ---- the call
 
-fn both(a: bool, b: bool) -> bool
-    ensures { λ r. ⌜ r ≡ (a && b) ⌝ }
-{
-    if a { b } else { false }
-}
-
 fn is_within(limit: u8, at: usize, n: usize, r: &[u8]) -> bool
     requires { ⌜ at + n ≤ length (now r) ⌝ }
     ensures { λ b. ⌜ b ≡ within limit at n (now (r .entry)) ⌝ }
 {
     let end = at + n;
-    !marks::has_above(limit, &r[at..end])
+    !word::has_above(limit, &r[at..end])
 }
 
 // The length, marks and flags of 0 or 1, and zero where zero stands.
@@ -170,9 +164,9 @@ fn is_shaped(r: &[u8]) -> bool
     ensures { λ b. ⌜ b ≡ shaped (now (r .entry)) ⌝ }
 {
     if r.len() == 160 {
-        let ones = both(is_within(1, 64, 16, r), is_within(1, 88, 3, r));
-        let gap = both(ones, is_within(0, 91, 1, r));
-        return both(gap, is_within(0, 132, 28, r));
+        let ones = word::both(is_within(1, 64, 16, r), is_within(1, 88, 3, r));
+        let gap = word::both(ones, is_within(0, 91, 1, r));
+        return word::both(gap, is_within(0, 132, 28, r));
     }
     false
 }

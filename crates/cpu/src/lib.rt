@@ -362,18 +362,6 @@ pub fn sfr_of(n: u32, c: Control) -> u32
     }
 }
 
-fn both(a: bool, b: bool) -> bool
-    ensures { λ r. ⌜ r ≡ (a && b) ⌝ }
-{
-    if a { b } else { false }
-}
-
-fn either(a: bool, b: bool) -> bool
-    ensures { λ r. ⌜ r ≡ (a || b) ⌝ }
-{
-    if a { true } else { b }
-}
-
 // ---- entries
 
 fn enter_at(low: u32, c: Control) -> Control
@@ -416,7 +404,7 @@ pub fn enter_debug(hit: u32, c: Control) -> Control
 fn is_hit(enabled: bool, a: u32, b: u32) -> bool
     ensures { λ r. ⌜ r ≡ (enabled && eqb a b) ⌝ }
 {
-    both(enabled, a == b)
+    word::both(enabled, a == b)
 }
 
 pub fn has_break(c: Control) -> bool
@@ -424,7 +412,7 @@ pub fn has_break(c: Control) -> bool
 {
     let zero = is_hit(word::is_on(c.hwdbg, 2), c.bp0, c.pc);
     let one = is_hit(word::is_on(c.hwdbg, 3), c.bp1, c.pc);
-    either(zero, one)
+    word::either(zero, one)
 }
 
 pub fn watch_at(a: u32, c: Control) -> u32
@@ -447,7 +435,7 @@ pub fn fall(te: bool, c: Control) -> Control
     let t = c.timer;
     if te {
         if 0 < t {
-            return with_timer(c, t - 1, either(c.pending, t == 1));
+            return with_timer(c, t - 1, word::either(c.pending, t == 1));
         }
     }
     c
@@ -665,7 +653,7 @@ pub fn mfsfr(d: u32, n: u32, c: Control) -> Effect
 fn is_accepted(c: Control) -> bool
     ensures { λ r. ⌜ r ≡ accepted c ⌝ }
 {
-    either(!word::is_on(c.psw, 3), word::is_on(c.psw, 2))
+    word::either(!word::is_on(c.psw, 3), word::is_on(c.psw, 2))
 }
 
 fn write_timer(v: u32, c: Control) -> Control
@@ -712,7 +700,7 @@ pub fn mtsfr(n: u32, y: u32, c: Control) -> Effect
         control: go_on(2, write_sfr(n, y, c)),
         reg: 16,
         value: 0,
-        wrote: both(n == 3, is_accepted(c)),
+        wrote: word::both(n == 3, is_accepted(c)),
     }
 }
 

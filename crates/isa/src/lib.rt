@@ -330,12 +330,6 @@ fn far(first: u16, second: u16) -> HalfDisp
     HalfDisp(word::extend(26, first as u32 * 65536 + second as u32))
 }
 
-fn both(a: bool, b: bool) -> bool
-    ensures { λ r. ⌜ r ≡ (a && b) ⌝ }
-{
-    if a { b } else { false }
-}
-
 fn short_if(t: bool, i: Instr) -> Decoded
     ensures { λ r. ⌜ r ≡ shortIf t i ⌝ }
 {
@@ -369,7 +363,7 @@ pub fn operands(k: Kind, first: u16, second: u16) -> Decoded
         Kind::Mtsfr => short_if(c <= 10, Instr::Mtsfr(c, d)),
         Kind::Jr => short_if(c == 0, Instr::Jr(d)),
         Kind::Jrl => short_if(c == 0, Instr::Jrl(d)),
-        Kind::Jsfr => short_if(both(c == 0, d <= 3), Instr::Jsfr(d)),
+        Kind::Jsfr => short_if(word::both(c == 0, d <= 3), Instr::Jsfr(d)),
         Kind::Swint => short_if(c == 0, Instr::Swint(d)),
         Kind::ShortJump(op) => Decoded::Short(Instr::ShortJump(op, near(first))),
         Kind::LongJump(op) => Decoded::Long(Instr::LongJump(op, far(first, second))),

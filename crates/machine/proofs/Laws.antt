@@ -1,9 +1,10 @@
 -- Small laws that the functions' proofs cite.
 -- Assumes nothing.
-use Prim.Native.Nat.{ℕ, suc, _+_, _*_, _-_, _/_, _%_, _^_, _<_, _≤_}
-use mathlib.Core.Path.{_≡_, refl, sym, ap, subst, _∙_}
+use Prim.Native.Nat.{ℕ, suc, _+_, _-_, _/_, _%_, _^_, _<_, _≤_}
+use mathlib.Core.Path.{_≡_, refl, sym, ap, _∙_}
 use mathlib.Core.Bool.{Bool, true, false, cond, not, _&&_, Bool·beq}
 use mathlib.Core.Logic.{_≢_}
+use Rattle.word.proofs.Truth.{beq-true}
 use mathlib.Core.List.{List}
 use native.Mathlib.Omega.{arith}
 use lib.Dec.{ltb, eqb}
@@ -11,9 +12,8 @@ use lib.ListN.{length, getD, set, take}
 use lib.Seq.{set-getD, set-out}
 use borrow.Author.Tests.{eqb-true, eqb-false, ltb-true, ltb-false, lt-ltb, le-ltb}
 use Rattle.word.specs.Bits.{on, fieldOf}
-use Rattle.word.specs.Bytes.{inside, load, loadOf, anyOf}
+use Rattle.word.specs.Bytes.{inside, anyOf}
 use Rattle.word.specs.declared.Width.{Width}
-use Rattle.word.proofs.Memory.{load-none, load-more, byte-more}
 use Rattle.word.specs.Numbers.{wrap}
 use Rattle.isa.specs.Decode.{operandsOf}
 use Rattle.isa.specs.declared.Kind.{Kind}
@@ -23,7 +23,8 @@ use Rattle.machine.specs.declared.Second.{Second}
 use Rattle.isa.proofs.Rows.{and-left, and-right}
 use Rattle.cpu.specs.Entries.{isBreak}
 use Rattle.cpu.specs.declared.Control.{Control}
-use Rattle.marks.specs.Memory.{anyAbove, badMark}
+use Rattle.marks.specs.Memory.{badMark}
+use Rattle.word.specs.Bytes.{anyAbove}
 use Rattle.machine.specs.State.{stateOf, outOfForm}
 use Rattle.machine.specs.Step.{lowest, chosen, stepOf, after}
 use Rattle.machine.specs.Run.{Final, final, goOn, stepsOf, judge, badLength}
@@ -33,21 +34,6 @@ use Rattle.machine.specs.declared.Judged.{Judged}
 use Rattle.machine.specs.declared.Done.{Done}
 use Rattle.machine.specs.declared.Out.{Out}
 use Rattle.machine.specs.declared.Event.{Event}
-
--- a half is below 65,536, since each byte is below 256
-pub half-lt : (m : List ℕ) (a : ℕ) → ((i : ℕ) → getD m i 0 < 256) → loadOf Width.Half m a < 65536
-half-lt m a h = go (inside m a 2)
-  where
-    two : load (0 + 1 + 1) m a < 2 ^ (8 * (0 + 1 + 1))
-    two =
-        subst (λ (n : ℕ). n < 2 ^ (8 * (0 + 1 + 1))) (sym (load-more 1 m a))
-        (byte-more 1 (load 1 m a) _
-        (subst (λ (n : ℕ). n < 2 ^ (8 * 1)) (sym (load-more 0 m a ∙ ap (λ (n : ℕ). n * 256 + getD m (a + 0) 0) (load-none m a))) (omega (arith, h (a + 0))))
-        (h (a + 1)))
-
-    go : (t : Bool) → cond t (load 2 m a) 0 < 65536
-    go true = two
-    go false = omega arith
 
 -- registers of which the first j places have been looked at, to put v at place i
 module _ (regs : List ℕ) (i v : ℕ) where
@@ -86,12 +72,6 @@ module _ (regs : List ℕ) (i v : ℕ) where
       go false l =
           let h : 16 ≤ i = ltb-false i 16 l in
           sym (set-out regs i v (omega arith))
-
-beq-true : (a b : Bool) → Bool·beq a b ≡ true → a ≡ b
-beq-true true true e = refl
-beq-true true false e = sym e
-beq-true false true e = e
-beq-true false false e = refl
 
 -- a mark that is there already
 pub mark-stays : (marks : List Bool) (i : ℕ) (m : Bool) → Bool·beq (getD marks i false) m ≡ true → set marks i m ≡ marks

@@ -5,7 +5,8 @@ use mathlib.Core.Bool.{Bool, cond, not, _||_}
 use mathlib.Core.List.{List}
 use lib.Dec.{ltb, eqb}
 use lib.ListN.{length, getD, take}
-use Rattle.marks.specs.Memory.{anyAbove, badMark}
+use Rattle.marks.specs.Memory.{badMark}
+use Rattle.word.specs.Bytes.{anyAbove}
 use Rattle.machine.specs.State.{outOfForm}
 use Rattle.machine.specs.Step.{stepOf, after}
 use Rattle.machine.specs.declared.State.{State}

@@ -144,12 +144,6 @@ pub fn fresh() -> State
     }
 }
 
-fn both(a: bool, b: bool) -> bool
-    ensures { λ r. ⌜ r ≡ (a && b) ⌝ }
-{
-    if a { b } else { false }
-}
-
 // A register's value and mark; there are sixteen.
 fn value_at(regs: [u32; 16], marks: [bool; 16], i: u32) -> Val
     ensures { λ r. ⌜ r ≡ valueIn regs marks i ⌝ }
@@ -325,7 +319,7 @@ fn is_taken(t: u32, p: u32, i: u32) -> bool
     requires { ⌜ i < 6 ⌝ }
     ensures { λ r. ⌜ r ≡ (on t i && on p (20 + i)) ⌝ }
 {
-    both(word::is_on(t, i), word::is_on(p, 20 + i))
+    word::both(word::is_on(t, i), word::is_on(p, 20 + i))
 }
 
 fn lowest_line(t: u32, p: u32) -> u32
@@ -361,14 +355,14 @@ fn line_or(i: u32, c: Control) -> Event
 fn is_open(p: u32) -> bool
     ensures { λ r. ⌜ r ≡ (on p 5 && not (on p 3)) ⌝ }
 {
-    both(word::is_on(p, 5), !word::is_on(p, 3))
+    word::both(word::is_on(p, 5), !word::is_on(p, 3))
 }
 
 fn choose_any(t: u32, c: Control) -> Event
     ensures { λ r. ⌜ r ≡ chosen t c ⌝ }
 {
     if is_open(c.psw) {
-        if both(c.pending, word::is_on(c.psw, 4)) {
+        if word::both(c.pending, word::is_on(c.psw, 4)) {
             return Event::Timer;
         }
         return line_or(lowest_line(t, c.psw), c);
@@ -383,7 +377,7 @@ fn is_calm(t: u32, c: Control) -> bool
     if c.pending {
         return false;
     }
-    both(t == 0, word::field(c.hwdbg, 2, 2) == 0)
+    word::both(t == 0, word::field(c.hwdbg, 2, 2) == 0)
 }
 
 fn choose(t: u32, c: Control) -> Event
@@ -485,7 +479,7 @@ fn act_on(i: Instr, x: Val, y: Val, f: Flags, c: Control, m: &[u8], mk: &[u8]) -
         ),
         Instr::Cmp(op, _, _) => does(
             cpu::compare(op, u, v, c),
-            marks::mark_tf(marks::either(x.mark, y.mark), f),
+            marks::mark_tf(word::either(x.mark, y.mark), f),
         ),
         Instr::CmpImm(op, _, n) => does(cpu::compare_imm(op, n, u, c), marks::mark_tf(x.mark, f)),
         Instr::Cond(op, t, d, _) => does(
@@ -494,7 +488,7 @@ fn act_on(i: Instr, x: Val, y: Val, f: Flags, c: Control, m: &[u8], mk: &[u8]) -
         ),
         Instr::CondImm(t, d, n) => does(
             cpu::conditional_imm(t, d, n, u, c),
-            marks::mark_reg(marks::either(f.tf, x.mark), f),
+            marks::mark_reg(word::either(f.tf, x.mark), f),
         ),
         Instr::Ldrpc(d, n) => load_at(
             false,
@@ -554,7 +548,7 @@ fn finish(c: Control, e: Effect, t: Taint, r: Reach) -> Done
 {
     let made = e.control;
     let flags = t.flags;
-    let te = both(word::is_on(c.psw, 4), !e.wrote);
+    let te = word::both(word::is_on(c.psw, 4), !e.wrote);
     Done {
         control: cpu::fall(te, watch_by(r, made)),
         flags,
@@ -663,7 +657,7 @@ fn is_bad_length(n: usize) -> bool
     let none = n == 0;
     let long = 65536 < n;
     let whole = n % 4 == 0;
-    marks::either(marks::either(none, long), !whole)
+    word::either(word::either(none, long), !whole)
 }
 
 fn is_out_of_form(c: Control) -> bool
@@ -673,9 +667,9 @@ fn is_out_of_form(c: Control) -> bool
     let twelve = word::is_on(c.psw, 12);
     let fixed = word::field(c.hwdbg, 0, 2) == 3;
     let high = 511 < c.hwdbg;
-    let late = both(c.pending, 0 < c.timer);
-    let low = marks::either(marks::either(odd, twelve), !fixed);
-    marks::either(marks::either(low, high), late)
+    let late = word::both(c.pending, 0 < c.timer);
+    let low = word::either(word::either(odd, twelve), !fixed);
+    word::either(word::either(low, high), late)
 }
 
 fn judge_all(b: usize, t: &[u8], s: State, m: &[u8], k: &[u8]) -> Judged
@@ -699,7 +693,7 @@ fn judge_all(b: usize, t: &[u8], s: State, m: &[u8], k: &[u8]) -> Judged
     if t.len() < b {
         return Judged::Refused(Reply::TapeLength);
     }
-    if marks::has_above(63, &t[..b]) {
+    if word::has_above(63, &t[..b]) {
         return Judged::Refused(Reply::TapeByte);
     }
     Judged::Good
@@ -752,7 +746,7 @@ fn steps(b: usize, t: &[u8], s: State, m: &mut [u8], k: &mut [u8]) -> Ended
                     let i = d.reg as usize;
                     let was = marks[i];
                     // Most marks stay, and then their array is not copied.
-                    if !marks::same(was, d.mark) {
+                    if !word::same(was, d.mark) {
                         let tags = put_mark(marks, d.reg, d.mark);
                         marks = tags;
                     }

@@ -1,11 +1,10 @@
 -- Marks of memory: "0 or 1 for each byte" of a slice as long as memory. Only this file and the three functions on it know the layout.
 -- Assumes nothing.
 use Prim.Native.Nat.{ℕ}
-use mathlib.Core.Bool.{Bool, false, _||_}
-use mathlib.Core.List.{List, [], _∷_}
-use lib.Dec.{ltb}
+use mathlib.Core.Bool.{Bool}
+use mathlib.Core.List.{List}
 use Rattle.word.specs.Bits.{num}
-use Rattle.word.specs.Bytes.{anyOf, fillOf}
+use Rattle.word.specs.Bytes.{anyOf, fillOf, anyAbove}
 use Rattle.word.specs.declared.ByteAddr.{ByteAddr}
 use Rattle.word.specs.declared.Width.{Width}
 
@@ -16,11 +15,6 @@ markedAt w k a = anyOf w k (a .0)
 -- "A stored byte takes the register's mark, so an unmarked store clears one"
 abbrev pub markAll : Width → List ℕ → ByteAddr → Bool → List ℕ
 markAll w k a m = fillOf w k (a .0) (num m)
-
--- a number above n in a list
-unfoldable pub anyAbove : ℕ → List ℕ → Bool
-anyAbove n [] = false
-anyAbove n (x ∷ l) = ltb n x || anyAbove n l
 
 -- refusal 3: "a mark byte above 1"
 abbrev pub badMark : List ℕ → Bool

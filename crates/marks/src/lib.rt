@@ -1,10 +1,10 @@
 // Marks: which operands stop an instruction, which results become marked, and the marks of memory.
 ghost use mathlib.Core.Path.{_≡_};
-ghost use mathlib.Core.Bool.{true, false, _||_, Bool·beq};
+ghost use mathlib.Core.Bool.{false, _||_};
 ghost use Rattle.isa.specs.declared.Instr.{Instr};
 ghost use Rattle.word.specs.Bits.{num};
 ghost use Rattle.marks.specs.Marks.{aluMark, aluFlags, condMark, immMark, sfrMark, with, taint, shortBlocked, longBlocked};
-ghost use Rattle.marks.specs.Memory.{markedAt, markAll, anyAbove, badMark};
+ghost use Rattle.marks.specs.Memory.{markedAt, markAll, badMark};
 use isa::AluOp;
 use isa::CondOp;
 use isa::ImmOp;
@@ -23,12 +23,6 @@ pub struct Flags {
 pub struct Taint {
     pub reg: bool,
     pub flags: Flags,
-}
-
-pub fn either(a: bool, b: bool) -> bool
-    ensures { λ r. ⌜ r ≡ (a || b) ⌝ }
-{
-    if a { true } else { b }
 }
 
 // ---- registers, TF and CY
@@ -54,17 +48,17 @@ fn mark_sum(m: bool, f: Flags) -> Taint
 fn mark_two(mx: bool, my: bool, f: Flags) -> Taint
     ensures { λ r. ⌜ r ≡ with (mx || my) f ⌝ }
 {
-    mark_reg(either(mx, my), f)
+    mark_reg(word::either(mx, my), f)
 }
 
 pub fn mark_alu(op: AluOp, mx: bool, my: bool, f: Flags) -> Taint
     ensures { λ r. ⌜ r ≡ taint (Instr.Alu op 0 0) mx my false false f ⌝ }
 {
     match op {
-        AluOp::Sub => mark_sum(either(mx, my), f),
-        AluOp::Add => mark_sum(either(mx, my), f),
-        AluOp::Subc => mark_sum(either(either(mx, my), f.cy), f),
-        AluOp::Addc => mark_sum(either(either(mx, my), f.cy), f),
+        AluOp::Sub => mark_sum(word::either(mx, my), f),
+        AluOp::Add => mark_sum(word::either(mx, my), f),
+        AluOp::Subc => mark_sum(word::either(word::either(mx, my), f.cy), f),
+        AluOp::Addc => mark_sum(word::either(word::either(mx, my), f.cy), f),
         AluOp::Mov => mark_reg(my, f),
         AluOp::And => mark_two(mx, my, f),
         AluOp::Or => mark_two(mx, my, f),
@@ -95,15 +89,9 @@ fn cond_sources(op: CondOp, mx: bool, my: bool) -> bool
 {
     match op {
         CondOp::Mov => my,
-        CondOp::Sub => either(mx, my),
-        CondOp::Add => either(mx, my),
+        CondOp::Sub => word::either(mx, my),
+        CondOp::Add => word::either(mx, my),
     }
-}
-
-pub fn same(a: bool, b: bool) -> bool
-    ensures { λ r. ⌜ r ≡ Bool·beq a b ⌝ }
-{
-    if a { b } else { !b }
 }
 
 // s is TF, t what the instruction wants of it.
@@ -111,10 +99,10 @@ pub fn mark_conditional(op: CondOp, t: bool, s: bool, mx: bool, my: bool, f: Fla
     ensures { λ r. ⌜ r ≡ taint (Instr.Cond op t 0 0) mx my false s f ⌝ }
 {
     let sources = cond_sources(op, mx, my);
-    if same(s, t) {
-        return mark_reg(either(f.tf, sources), f);
+    if word::same(s, t) {
+        return mark_reg(word::either(f.tf, sources), f);
     }
-    mark_reg(either(f.tf, mx), f)
+    mark_reg(word::either(f.tf, mx), f)
 }
 
 pub fn mark_imm(op: ImmOp, mx: bool, f: Flags) -> Taint
@@ -130,7 +118,11 @@ pub fn mark_imm(op: ImmOp, mx: bool, f: Flags) -> Taint
 pub fn is_sfr_marked(n: u32, f: Flags) -> bool
     ensures { λ r. ⌜ r ≡ sfrMark n f ⌝ }
 {
-    if n == 0 { either(f.tf, f.cy) } else { false }
+    if n == 0 {
+        word::either(f.tf, f.cy)
+    } else {
+        false
+    }
 }
 
 pub fn mark_mtsfr(n: u32, f: Flags) -> Taint
@@ -191,22 +183,8 @@ fn byte(m: bool) -> u8
     if m { 1 } else { 0 }
 }
 
-// A byte above a limit.
-pub fn has_above(limit: u8, k: &[u8]) -> bool
-    ensures { λ r. ⌜ r ≡ anyAbove limit (now (k .entry)) ⌝ }
-{
-    let mut i: usize = 0;
-    while i < k.len() {
-        if limit < k[i] {
-            return true;
-        }
-        i += 1;
-    }
-    false
-}
-
 pub fn has_bad_mark(k: &[u8]) -> bool
     ensures { λ r. ⌜ r ≡ badMark (now (k .entry)) ⌝ }
 {
-    has_above(1, k)
+    word::has_above(1, k)
 }

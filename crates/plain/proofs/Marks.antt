@@ -17,7 +17,8 @@ use Rattle.isa.specs.declared.LongOp.{LongOp}
 use Rattle.isa.specs.declared.Instr.{Instr}
 use Rattle.cpu.specs.declared.Reach.{Reach}
 use Rattle.marks.specs.Marks.{aluMark, aluFlags, condMark, immMark, sfrMark, with, taint, shortBlocked, longBlocked, blocked}
-use Rattle.marks.specs.Memory.{anyAbove, badMark}
+use Rattle.marks.specs.Memory.{badMark}
+use Rattle.word.specs.Bytes.{anyAbove}
 use Rattle.marks.specs.declared.Flags.{Flags}
 use Rattle.machine.specs.Step.{loadedMark, markedTo}
 

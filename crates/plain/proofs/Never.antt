@@ -15,7 +15,7 @@ use Rattle.isa.specs.declared.Decoded.{Decoded}
 use Rattle.isa.specs.declared.Instr.{Instr}
 use Rattle.cpu.specs.Exec.{operandsOf, reachOf}
 use Rattle.cpu.specs.declared.Reach.{Reach}
-use Rattle.marks.specs.Memory.{anyAbove}
+use Rattle.word.specs.Bytes.{anyAbove}
 use Rattle.machine.specs.State.{outOfForm}
 use Rattle.machine.specs.Fetch.{found, halfAt, isLongKind}
 use Rattle.machine.specs.Step.{chosen, outside}

@@ -20,7 +20,7 @@ use Rattle.cpu.specs.Exec.{moves, exec, operandsOf, reachOf}
 use Rattle.cpu.specs.declared.Control.{Control}
 use Rattle.cpu.specs.declared.Effect.{Effect}
 use Rattle.cpu.specs.declared.Reach.{Reach}
-use Rattle.marks.specs.Memory.{anyAbove}
+use Rattle.word.specs.Bytes.{anyAbove}
 use Rattle.machine.specs.State.{outOfForm}
 use Rattle.machine.specs.Fetch.{found, halfAt, isLongKind}
 use Rattle.machine.specs.Step.{chosen, outside, loadedFrom, storedTo, watchedBy}

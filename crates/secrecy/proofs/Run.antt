@@ -11,7 +11,8 @@ use borrow.Author.Tests.{eqb-true, not-false}
 use Rattle.word.specs.Bits.{fieldOf}
 use Rattle.cpu.specs.Control.{withPsw}
 use Rattle.cpu.specs.declared.Control.{Control}
-use Rattle.marks.specs.Memory.{anyAbove, badMark}
+use Rattle.marks.specs.Memory.{badMark}
+use Rattle.word.specs.Bytes.{anyAbove}
 use Rattle.marks.specs.declared.Flags.{Flags}
 use Rattle.machine.specs.State.{outOfForm}
 use Rattle.machine.specs.Step.{Stepped, stepOf, after}

@@ -3,7 +3,7 @@
 use Prim.Native.Nat.{ℕ, zero, suc, _+_, _*_, _-_, _/_, _%_, _^_, _<_, _≤_}
 use mathlib.Core.Path.{_≡_, refl, sym, ap, ap₂, subst, _∙_}
 use mathlib.Core.List.{List}
-use mathlib.Core.Bool.{Bool, true, false, _||_}
+use mathlib.Core.Bool.{Bool, true, false, cond, _||_}
 use native.Mathlib.Nat.{lt-irrefl, not-suc-le-zero, mod-one}
 use native.Mathlib.Numerals.{add-one}
 use native.Mathlib.Omega.{arith}
@@ -11,9 +11,10 @@ use lib.Arith.{digits-lt}
 use lib.Pow.{pow-add, mod-pow-add}
 use lib.Dec.{ltb, eqb}
 use borrow.Author.Tests.{eqb-true, eqb-false}
-use lib.ListN.{length, getD, set, length-set}
-use lib.Seq.{getD-set-same, getD-set-other, set-comm}
-use Rattle.word.specs.Bytes.{load, store, fill, any}
+use lib.ListN.{length, getD, set, length-set, drop, drop-of-length-le}
+use lib.Seq.{getD-set-same, getD-set-other, set-comm, drop-cons}
+use Rattle.word.specs.Bytes.{inside, load, store, fill, any, loadOf, anyAbove}
+use Rattle.word.specs.declared.Width.{Width}
 
 -- one more byte
 pub load-more : (i : ℕ) (m : List ℕ) (a : ℕ) → load (i + 1) m a ≡ load i m a * 256 + getD m (a + i) 0
@@ -140,3 +141,27 @@ store-order n zero m a v b u h = refl
 store-order n (suc k) m a v b u h =
     store-order n k (set m (b + k) (u % 256)) a v b (u / 256) h
     ∙ ap (λ (x : List ℕ). store k x b (u / 256)) (store-set n m a v (b + k) (u % 256) (λ i l q. omega arith))
+
+-- one more byte looked at, and none left
+pub above-more : (n : ℕ) (l : List ℕ) (i : ℕ) → i < length l → anyAbove n (drop i l) ≡ (ltb n (getD l i 0) || anyAbove n (drop (i + 1) l))
+unfolding anyAbove
+above-more n l i h = ap (anyAbove n) (drop-cons l i 0 h) ∙ ap (λ (k : ℕ). ltb n (getD l i 0) || anyAbove n (drop k l)) (sym (add-one i))
+
+pub above-none : (n : ℕ) (l : List ℕ) (i : ℕ) → length l ≤ i → anyAbove n (drop i l) ≡ false
+unfolding anyAbove
+above-none n l i h = ap (anyAbove n) (drop-of-length-le l h)
+
+-- a half is below 65,536, since each byte is below 256
+pub half-lt : (m : List ℕ) (a : ℕ) → ((i : ℕ) → getD m i 0 < 256) → loadOf Width.Half m a < 65536
+half-lt m a h = go (inside m a 2)
+  where
+    two : load (0 + 1 + 1) m a < 2 ^ (8 * (0 + 1 + 1))
+    two =
+        subst (λ (n : ℕ). n < 2 ^ (8 * (0 + 1 + 1))) (sym (load-more 1 m a))
+        (byte-more 1 (load 1 m a) _
+        (subst (λ (n : ℕ). n < 2 ^ (8 * 1)) (sym (load-more 0 m a ∙ ap (λ (n : ℕ). n * 256 + getD m (a + 0) 0) (load-none m a))) (omega (arith, h (a + 0))))
+        (h (a + 1)))
+
+    go : (t : Bool) → cond t (load 2 m a) 0 < 65536
+    go true = two
+    go false = omega arith

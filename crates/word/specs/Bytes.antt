@@ -2,7 +2,7 @@
 -- Assumes nothing.
 use Prim.Native.Nat.{ℕ, zero, suc, _+_, _*_, _/_, _%_}
 use mathlib.Core.Bool.{Bool, false, cond, _||_}
-use mathlib.Core.List.{List}
+use mathlib.Core.List.{List, [], _∷_}
 use lib.Dec.{ltb, leb}
 use lib.ListN.{length, getD, set}
 use Rattle.word.specs.declared.Width.{Width}
@@ -48,3 +48,8 @@ fillOf w m a b = cond (inside m a (bytesOf w)) (fill (bytesOf w) m a b) m
 
 abbrev pub anyOf : Width → List ℕ → ℕ → Bool
 anyOf w m a = cond (inside m a (bytesOf w)) (any (bytesOf w) m a) false
+
+-- a number above n in a list
+unfoldable pub anyAbove : ℕ → List ℕ → Bool
+anyAbove n [] = false
+anyAbove n (x ∷ l) = ltb n x || anyAbove n l

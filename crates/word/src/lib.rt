@@ -1,11 +1,11 @@
 // 32-bit words: bits and fields, arithmetic, addresses, and bytes of memory. Every function has an answer for every input.
 ghost use mathlib.Core.Path.{_≡_};
 ghost use Prim.Native.Nat.{ℕ, _+_, _-_, _*_, _/_, _%_, _^_, _≤_, _<_};
-ghost use mathlib.Core.Bool.{false, cond, _||_};
+ghost use mathlib.Core.Bool.{false, cond, Bool·beq, _&&_, _||_};
 ghost use Rattle.word.specs.Bits.{num, fieldOf, on, withField, withBit};
 ghost use Rattle.word.specs.Numbers.{wrap, sumOf, carryOf, differenceOf, borrowOf, productOf, signs, lslOf, lsrOf, asrOf, lessOf, extendOf, fitsOf};
 ghost use Rattle.word.specs.Addresses.{jumpSum, byteSum, alignedOf};
-ghost use Rattle.word.specs.Bytes.{bytesOf, inside, load, store, fill, any, loadOf, storeOf, fillOf, anyOf};
+ghost use Rattle.word.specs.Bytes.{bytesOf, inside, load, store, fill, any, loadOf, storeOf, fillOf, anyOf, anyAbove};
 
 // An address counts bytes and a displacement halfwords, both modulo 2^32. Only `jump_sum` joins them.
 pub struct ByteAddr(pub u32);
@@ -23,6 +23,26 @@ pub enum Width {
 pub struct Sum {
     pub value: u32,
     pub carry: bool,
+}
+
+// ---- truth values
+
+pub fn both(a: bool, b: bool) -> bool
+    ensures { λ r. ⌜ r ≡ (a && b) ⌝ }
+{
+    if a { b } else { false }
+}
+
+pub fn either(a: bool, b: bool) -> bool
+    ensures { λ r. ⌜ r ≡ (a || b) ⌝ }
+{
+    if a { true } else { b }
+}
+
+pub fn same(a: bool, b: bool) -> bool
+    ensures { λ r. ⌜ r ≡ Bool·beq a b ⌝ }
+{
+    if a { b } else { !b }
 }
 
 // ---- bits and fields
@@ -255,12 +275,6 @@ fn fill_bytes(m: &mut [u8], at: u32, n: u32, b: u8)
     }
 }
 
-fn either(a: bool, b: bool) -> bool
-    ensures { λ r. ⌜ r ≡ (a || b) ⌝ }
-{
-    if a { true } else { b }
-}
-
 fn any_bytes(m: &[u8], at: u32, n: u32) -> bool
     requires { ⌜ n ≤ 4 ⌝ }
     ensures { λ r. ⌜ r ≡ cond (inside (now (m .entry)) at n) (any n (now (m .entry)) at) false ⌝ }
@@ -323,4 +337,18 @@ pub fn has_any(w: Width, m: &[u8], at: ByteAddr) -> bool
         Width::Half => any_bytes(m, a, 2),
         Width::Word => any_bytes(m, a, 4),
     }
+}
+
+// A byte above a limit.
+pub fn has_above(limit: u8, k: &[u8]) -> bool
+    ensures { λ r. ⌜ r ≡ anyAbove limit (now (k .entry)) ⌝ }
+{
+    let mut i: usize = 0;
+    while i < k.len() {
+        if limit < k[i] {
+            return true;
+        }
+        i += 1;
+    }
+    false
 }

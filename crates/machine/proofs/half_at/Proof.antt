@@ -1,5 +1,5 @@
 use Rattle.machine.specs.Fetch.{halfAt}
-use Rattle.machine.proofs.Laws.{half-lt}
+use Rattle.word.proofs.Memory.{half-lt}
 use borrow.Author.Needs.{needs}
 use Rattle.machine.proofs.half_at.Statement.{statement}
 use Rattle.machine.proofs.half_at.Tie as tie

@@ -3,11 +3,11 @@ use native.Mathlib.Omega.{arith}
 use Prim.Native.Nat.{_-_, _≤_}
 use mathlib.Core.Path.{_≡_, refl, sym, _∙_}
 use borrow.Author.Needs.{needs}
-use Rattle.marks.proofs.Laws.{above-more, above-none}
+use Rattle.word.proofs.Memory.{above-more, above-none}
 use lib.ListN.{length, drop}
-use Rattle.marks.specs.Memory.{anyAbove}
-use Rattle.marks.proofs.has_above.Statement.{statement}
-use Rattle.marks.proofs.has_above.Tie as tie
+use Rattle.word.specs.Bytes.{anyAbove}
+use Rattle.word.proofs.has_above.Statement.{statement}
+use Rattle.word.proofs.has_above.Tie as tie
 
 abbrev Inv-loop : tie.InvT-loop
 Inv-loop limit k i₀ i = (i ≤ length k) × (anyAbove limit (drop i k) ≡ anyAbove limit k)

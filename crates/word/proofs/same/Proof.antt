@@ -1,7 +1,7 @@
-use Rattle.marks.proofs.Laws.{same-true}
+use Rattle.word.proofs.Truth.{same-true}
 use borrow.Author.Needs.{needs}
-use Rattle.marks.proofs.same.Statement.{statement}
-use Rattle.marks.proofs.same.Tie as tie
+use Rattle.word.proofs.same.Statement.{statement}
+use Rattle.word.proofs.same.Tie as tie
 
 returns : tie.Need-returns
 returns c = rw (c .if1 .taken) (same-true (c .before .args .b))
