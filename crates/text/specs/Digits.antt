@@ -4,7 +4,7 @@ use Prim.Native.Nat.{ℕ, zero, suc, _+_, _-_, _*_, _/_, _%_}
 use mathlib.Core.Bool.{Bool, true, cond, _&&_}
 use mathlib.Core.List.{List, [], _∷_, _++_}
 use lib.Dec.{ltb, leb, eqb}
-use lib.ListN.{length, getD}
+use lib.ListN.{length, getD, drop}
 use Rattle.text.specs.declared.Read.{Read}
 
 -- what a byte is worth as a digit, `0` to `9` and `a` to `f`; 16 for any other byte
@@ -57,3 +57,7 @@ pairOf c d = (valueOf c * 16 + valueOf d) % 256
 
 abbrev pub hexText : ℕ → List ℕ
 hexText n = digitsOf 16 8 n
+
+-- "decimals without leading zeros"; twenty digits hold every 64-bit number
+abbrev pub decimalText : ℕ → List ℕ
+decimalText n = drop (zerosOf (digitsOf 10 20 n)) (digitsOf 10 20 n)

@@ -4,7 +4,6 @@ use Rattle.text.specs.Digits.{areHex}
 use lib.ListN.{length, drop}
 use mathlib.Core.Path.{_≡_, refl, sym, _∙_}
 use Prim.Native.Nat.{_-_, _≤_}
-use borrow.Author.Tests.{lt-ltb, le-ltb}
 use native.Mathlib.Omega.{arith}
 use Rattle.text.proofs.are_hex.Statement.{statement}
 use Rattle.text.proofs.are_hex.Tie as tie
@@ -35,9 +34,9 @@ loop-less c = search needs
 
 loop-again : tie.Need-loop-again Inv-loop μ-loop
 loop-again c = (
-      omega arith,
-      sym (hex-on _ _ (c .before .before .before .loop-test .taken) _ (c .before .value .ensures .0) (c .if1 .left)) ∙ c .before .before .before .before .loop .inv .1,
-    )
+  omega arith,
+  sym (hex-on _ _ (c .before .before .before .loop-test .taken) _ (c .before .value .ensures .0) (c .if1 .left)) ∙ c .before .before .before .before .loop .inv .1,
+)
 
 returns-2 : tie.Need-returns-2 Inv-loop μ-loop
 returns-2 c = sym (hex-none _ _ (c .loop-test .left)) ∙ c .before .loop .inv .1

@@ -1,10 +1,9 @@
 use Rattle.text.proofs.Laws.{same-on, same-stop, same-none, same-length}
 use borrow.Author.Needs.{needs}
 use Rattle.text.specs.Fields.{sameOf}
-use lib.ListN.{length, drop}
+use lib.ListN.{drop}
 use mathlib.Core.Path.{_≡_, refl, sym, _∙_}
 use Prim.Native.Nat.{_-_, _≤_}
-use borrow.Author.Tests.{eq-eqb, ne-eqb}
 use native.Mathlib.Omega.{arith}
 use Rattle.text.proofs.is_same.Statement.{statement}
 use Rattle.text.proofs.is_same.Tie as tie
@@ -41,11 +40,11 @@ loop-less c = search needs
 
 loop-again : tie.Need-loop-again Inv-loop μ-loop
 loop-again c = (
-      omega arith,
-      sym
+  omega arith,
+  sym
       (same-on (c .before .before .before .before .before .before .args .a .now) (c .before .before .before .before .before .before .args .b .now) (c .before .before .before .before .loop .i) (omega arith) (omega arith) (c .if2 .left))
       ∙ c .before .before .before .before .loop .inv .1,
-    )
+)
 
 returns-3 : tie.Need-returns-3 Inv-loop μ-loop
 returns-3 c =

@@ -6,7 +6,6 @@ use lib.Pow.{pow-mono}
 use lib.ListN.{length, drop}
 use mathlib.Core.Path.{_≡_, refl, sym, _∙_}
 use Prim.Native.Nat.{_-_, _*_, _^_, _≤_, _<_}
-use borrow.Author.Tests.{lt-ltb, le-ltb}
 use native.Mathlib.Omega.{arith}
 use Rattle.text.proofs.number.Statement.{statement}
 use Rattle.text.proofs.number.Tie as tie
@@ -46,10 +45,10 @@ loop-less c = search needs
 
 loop-again : tie.Need-loop-again Inv-loop μ-loop
 loop-again c = (
-      omega arith,
-      digit-more (c .before .before .before .before .before .before .args .base) (c .before .before .before .before .loop .i) (c .before .before .before .before .loop .v) (c .before .value .result) (omega arith) (omega arith) (c .if1 .left),
-      sym (number-on _ _ (c .before .before .before .loop-test .taken) _ _ _ (c .before .value .ensures .0) (c .if1 .left)) ∙ c .before .before .before .before .loop .inv .2,
-    )
+  omega arith,
+  digit-more (c .before .before .before .before .before .before .args .base) (c .before .before .before .before .loop .i) (c .before .before .before .before .loop .v) (c .before .value .result) (omega arith) (omega arith) (c .if1 .left),
+  sym (number-on _ _ (c .before .before .before .loop-test .taken) _ _ _ (c .before .value .ensures .0) (c .if1 .left)) ∙ c .before .before .before .before .loop .inv .2,
+)
 
 cast-t13 : tie.Need-cast-t13 Inv-loop μ-loop
 cast-t13 c = let h : 2 ^ (4 * c .before .loop .i) ≤ 2 ^ 32 = pow-mono {j = 32} (omega arith) in omega arith

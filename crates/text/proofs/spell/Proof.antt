@@ -1,4 +1,3 @@
-use Prim.Native.Nat.{_/_}
 use native.Mathlib.Nat.{mod-lt}
 use mathlib.Core.List.{append-nil}
 use lib.ListN.{length-set}
@@ -9,7 +8,7 @@ use Rattle.text.specs.Digits.{digitsOf}
 use lib.ListN.{length, drop}
 use mathlib.Core.List.{_++_}
 use mathlib.Core.Path.{_≡_, refl, sym, _∙_}
-use Prim.Native.Nat.{_-_, _≤_}
+use Prim.Native.Nat.{_≤_}
 use native.Mathlib.Omega.{arith}
 use Rattle.text.proofs.spell.Statement.{statement}
 use Rattle.text.proofs.spell.Tie as tie
@@ -43,12 +42,12 @@ loop-less c = search needs
 
 loop-again : tie.Need-loop-again Inv-loop μ-loop
 loop-again c = (
-      rw length-set (omega arith),
-      length-set _ _ _ ∙ c .before .before .loop .inv .1,
-      rw (c .glyph .ensures)
+  rw length-set (omega arith),
+  rw length-set (c .before .before .loop .inv .1),
+  rw (c .glyph .ensures)
       (sym (spell-more _ (c .before .before .loop .i) (c .before .before .loop .rest) (c .before .before .loop .out) (c .before .loop-test .taken) (c .before .before .loop .inv .0))
       ∙ c .before .before .loop .inv .2),
-    )
+)
 
 same-length : tie.Need-same-length Inv-loop μ-loop
 same-length c = search needs

@@ -1,11 +1,9 @@
 use Rattle.text.proofs.Laws.{tab-on, tab-stop, tab-none}
-use native.Mathlib.Numerals.{add-one}
 use borrow.Author.Needs.{needs}
 use Rattle.text.specs.Fields.{tabOf}
 use lib.ListN.{length, drop}
-use mathlib.Core.Path.{_≡_, refl, sym, ap, _∙_}
+use mathlib.Core.Path.{_≡_}
 use Prim.Native.Nat.{_+_, _-_, _≤_}
-use borrow.Author.Tests.{eq-eqb, ne-eqb}
 use native.Mathlib.Omega.{arith}
 use Rattle.text.proofs.tab_in.Statement.{statement}
 use Rattle.text.proofs.tab_in.Tie as tie
@@ -24,9 +22,9 @@ shared-slice-read-if1 c = search needs
 
 returns : tie.Need-returns Inv-loop μ-loop
 returns c = (
-      omega (arith, tab-stop (c .before .before .before .before .args .l .now) (c .before .before .before .loop .i) (c .before .before .loop-test .taken) (c .if1 .taken)),
-      omega arith,
-    )
+  omega (arith, tab-stop (c .before .before .before .before .args .l .now) (c .before .before .before .loop .i) (c .before .before .loop-test .taken) (c .if1 .taken)),
+  omega arith,
+)
 
 add-i : tie.Need-add-i Inv-loop μ-loop
 add-i c = search needs
@@ -36,9 +34,9 @@ loop-less c = search needs
 
 loop-again : tie.Need-loop-again Inv-loop μ-loop
 loop-again c = (
-      omega arith,
-      omega (arith, tab-on (c .before .before .before .before .args .l .now) (c .before .before .before .loop .i) (c .before .before .loop-test .taken) (c .if1 .left)),
-    )
+  omega arith,
+  omega (arith, tab-on (c .before .before .before .before .args .l .now) (c .before .before .before .loop .i) (c .before .before .loop-test .taken) (c .if1 .left)),
+)
 
 returns-2 : tie.Need-returns-2 Inv-loop μ-loop
 returns-2 c = (omega (arith, tab-none (c .before .before .args .l .now) (c .before .loop .i) (c .loop-test .left)), omega arith)

@@ -29,16 +29,16 @@ cast-result-2 c = search needs
 returns-4 : tie.Need-returns-4
 unfolding valueOf
 returns-4 c = (
-      rw (le-ltb _ _ (c .before .before .before .if1 .left), le-ltb _ _ (c .before .before .if2 .left), le-ltb _ _ (c .before .if3 .left), lt-ltb _ _ (c .if4 .taken)),
-      omega arith,
-    )
+  rw (le-ltb _ _ (c .before .before .before .if1 .left), le-ltb _ _ (c .before .before .if2 .left), le-ltb _ _ (c .before .if3 .left), lt-ltb _ _ (c .if4 .taken)),
+  omega arith,
+)
 
 returns-5 : tie.Need-returns-5
 unfolding valueOf
 returns-5 c = (
-      rw (le-ltb _ _ (c .before .before .before .if1 .left), le-ltb _ _ (c .before .before .if2 .left), le-ltb _ _ (c .before .if3 .left), le-ltb _ _ (c .if4 .left)),
-      omega arith,
-    )
+  rw (le-ltb _ _ (c .before .before .before .if1 .left), le-ltb _ _ (c .before .before .if2 .left), le-ltb _ _ (c .before .if3 .left), le-ltb _ _ (c .if4 .left)),
+  omega arith,
+)
 
 pub value-spec : {M : Type 1} → statement M
 value-spec =

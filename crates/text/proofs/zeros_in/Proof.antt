@@ -2,9 +2,8 @@ use Rattle.text.proofs.Laws.{zeros-on, zeros-stop, zeros-none}
 use borrow.Author.Needs.{needs}
 use Rattle.text.specs.Digits.{zerosOf}
 use lib.ListN.{length, drop}
-use mathlib.Core.Path.{_≡_, refl, sym, _∙_}
+use mathlib.Core.Path.{_≡_}
 use Prim.Native.Nat.{_+_, _-_, _≤_}
-use borrow.Author.Tests.{eq-eqb, ne-eqb}
 use native.Mathlib.Omega.{arith}
 use Rattle.text.proofs.zeros_in.Statement.{statement}
 use Rattle.text.proofs.zeros_in.Tie as tie
@@ -35,9 +34,9 @@ loop-less c = search needs
 
 loop-again : tie.Need-loop-again Inv-loop μ-loop
 loop-again c = (
-      omega arith,
-      omega (arith, zeros-on (c .before .before .before .before .args .l .now) (c .before .before .before .loop .i) (c .before .before .loop-test .taken) (c .if1 .left)),
-    )
+  omega arith,
+  omega (arith, zeros-on (c .before .before .before .before .args .l .now) (c .before .before .before .loop .i) (c .before .before .loop-test .taken) (c .if1 .left)),
+)
 
 returns-2 : tie.Need-returns-2 Inv-loop μ-loop
 returns-2 c = omega (arith, zeros-none (c .before .before .args .l .now) (c .before .loop .i) (c .loop-test .left))
