@@ -6,6 +6,7 @@ use mathlib.Core.List.{List, [], _∷_, _++_}
 use lib.Dec.{eqb}
 use lib.ListN.{length}
 use Rattle.script.specs.Line.{Told, told, blank, lineOf, numberAfter}
+use Rattle.script.specs.Reader.{Fed, feedOf}
 use Rattle.script.specs.Answer.{answered}
 use Rattle.script.specs.declared.Phase.{Phase}
 
@@ -48,3 +49,14 @@ answerOf input =
     answered (afterLines (linesOf [] input) begin .told .phase) (isEnded (leftOf [] input)) (afterLines (linesOf [] input) begin .number)
     (afterLines (linesOf [] input) begin .told .mem)
     (afterLines (linesOf [] input) begin .told .marks) .text
+
+-- ---- parts
+
+-- an input's bytes, and the parts fed one after the other
+unfoldable pub joined : List (List ℕ) → List ℕ
+joined [] = []
+joined (p ∷ ps) = p ++ joined ps
+
+unfoldable pub feedAll : List (List ℕ) → Fed → Fed
+feedAll [] s = s
+feedAll (p ∷ ps) s = feedAll ps (feedOf p s)
