@@ -35,7 +35,7 @@ feed-parts (p ∷ ps) s = feed-parts ps (feedOf p s) ∙ sym (feed-append p (joi
 -- Whatever the parts and the bytes in the room for a line: the answer is that of the whole input.
 pub answer-is-whole : (ps : List (List ℕ)) (l : List ℕ) → length l ≡ 45
     → answerBy (feedAll ps (fed startOf l blank blank) .reader) (feedAll ps (fed startOf l blank blank) .mem) (feedAll ps (fed startOf l blank blank) .marks) .text
-        ≡ answerOf (joined ps)
+    ≡ answerOf (joined ps)
 answer-is-whole ps l h =
     ap (λ (s : Fed). answerBy (s .reader) (s .mem) (s .marks) .text) (feed-parts ps (fed startOf l blank blank)) ∙ fed-whole (joined ps) l h
 

@@ -170,10 +170,10 @@ kept-one u b line p h l =
       room = length-set line u b ∙ h .room;
       few = omega arith;
       first =
-        ap (λ (i : ℕ). take i (set line u b)) (add-one u)
-        ∙ take-suc-set line u b (omega (arith, h .room))
-        ∙ ap (λ (x : List ℕ). x ++ (b ∷ [])) (h .first ∙ take-all 45 p (omega arith))
-        ∙ sym (take-all 45 (p ++ (b ∷ [])) q);
+          ap (λ (i : ℕ). take i (set line u b)) (add-one u)
+          ∙ take-suc-set line u b (omega (arith, h .room))
+          ∙ ap (λ (x : List ℕ). x ++ (b ∷ [])) (h .first ∙ take-all 45 p (omega arith))
+          ∙ sym (take-all 45 (p ++ (b ∷ [])) q);
     }
 
 kept-none : (u b : ℕ) (line p : List ℕ) → Holds u line p → 45 ≤ u → Holds u line (p ++ (b ∷ []))
@@ -187,7 +187,7 @@ alike-more b t rest ph n u line p m k h = go (eqb b 10)
   where
     ended : (x : Told) → x ≡ lineOf ph p m k
         → answerFed (feedOf t (fed (reader (x .phase) (numberAfter (x .phase) n) 0) line (x .mem) (x .marks)))
-            ≡ answerTold (afterLines (linesOf [] t) (afterLine p (script (told ph m k) n))) (leftOf [] t)
+        ≡ answerTold (afterLines (linesOf [] t) (afterLine p (script (told ph m k) n))) (leftOf [] t)
     ended x e =
         rest (x .phase) (numberAfter (x .phase) n) 0 line [] (x .mem) (x .marks) (record { room = h .room; few = omega arith; first = refl })
         ∙ ap (λ (y : Told). answerTold (afterLines (linesOf [] t) (script y (numberAfter (y .phase) n))) (leftOf [] t)) e
@@ -197,15 +197,15 @@ alike-more b t rest ph n u line p m k h = go (eqb b 10)
 
     kept : (q : Bool) → ltb u 45 ≡ q
         → answerFed (feedOf t (fed (reader ph n (cond q (u + 1) u)) (cond q (set line u b) line) m k))
-            ≡ answerTold (afterLines (linesOf (p ++ (b ∷ [])) t) (script (told ph m k) n)) (leftOf (p ++ (b ∷ [])) t)
+        ≡ answerTold (afterLines (linesOf (p ++ (b ∷ [])) t) (script (told ph m k) n)) (leftOf (p ++ (b ∷ [])) t)
     kept true e = rest ph n (u + 1) (set line u b) (p ++ (b ∷ [])) m k (kept-one u b line p h (ltb-true u 45 e))
     kept false e = rest ph n u line (p ++ (b ∷ [])) m k (kept-none u b line p h (ltb-false u 45 e))
 
     go : (q : Bool)
         → answerFed (feedOf t (cond q
-            (fed (readerAfter (lineOf ph (take u line) m k) n) line (lineOf ph (take u line) m k .mem) (lineOf ph (take u line) m k .marks))
-            (fed (reader ph n (cond (ltb u 45) (u + 1) u)) (cond (ltb u 45) (set line u b) line) m k)))
-            ≡ answerTold (afterLines (cond q (p ∷ linesOf [] t) (linesOf (p ++ (b ∷ [])) t)) (script (told ph m k) n)) (cond q (leftOf [] t) (leftOf (p ++ (b ∷ [])) t))
+        (fed (readerAfter (lineOf ph (take u line) m k) n) line (lineOf ph (take u line) m k .mem) (lineOf ph (take u line) m k .marks))
+        (fed (reader ph n (cond (ltb u 45) (u + 1) u)) (cond (ltb u 45) (set line u b) line) m k)))
+        ≡ answerTold (afterLines (cond q (p ∷ linesOf [] t) (linesOf (p ++ (b ∷ [])) t)) (script (told ph m k) n)) (cond q (leftOf [] t) (leftOf (p ++ (b ∷ [])) t))
     go true = ended (lineOf ph (take u line) m k) said
     go false = kept (ltb u 45) refl
 
@@ -215,6 +215,6 @@ alike (b ∷ t) = alike-more b t (alike t)
 
 pub fed-whole : (t l : List ℕ) → length l ≡ 45
     → answerBy (feedOf t (fed startOf l blank blank) .reader) (feedOf t (fed startOf l blank blank) .mem) (feedOf t (fed startOf l blank blank) .marks) .text
-        ≡ answerOf t
+    ≡ answerOf t
 unfolding answerOf
 fed-whole t l h = alike t Phase.First 1 0 l [] blank blank (record { room = h; few = omega arith; first = refl })
