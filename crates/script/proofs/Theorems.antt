@@ -1,24 +1,29 @@
 -- What the reader and the answer are, taken together; read this file with specs/. The proofs are in the files that it cites.
 -- Assumes nothing.
-use Prim.Native.Nat.{ℕ, zero, suc, _+_, _-_, _<_, _≤_}
-use mathlib.Core.Path.{_≡_, refl, sym, ap, ap₂, subst, _∙_}
-use mathlib.Core.Bool.{Bool, true, false, cond}
+use Prim.Native.Nat.{ℕ, zero, suc, _+_, _≤_}
+use mathlib.Core.Path.{_≡_, refl, sym, ap, ap₂, _∙_}
+use mathlib.Core.Bool.{Bool, true, false}
 use mathlib.Core.List.{List, [], _∷_, _++_}
 use native.Mathlib.Omega.{arith}
-use lib.ListN.{length, getD}
+use lib.Dec.{eqb}
+use lib.ListN.{length, getD, set}
+use lib.Seq.{sets}
+use native.Mathlib.Nat.{add-zero}
+use native.Mathlib.Numerals.{add-one}
+use borrow.Author.Tests.{lt-ltb}
 use Rattle.machine.specs.Run.{Final, runOf}
-use Rattle.machine.specs.State.{numberOf}
-use Rattle.machine.specs.declared.Ended.{Ended}
 use Rattle.cpu.specs.declared.Control.{Control}
 use Rattle.machine.specs.declared.State.{State}
 use Rattle.secrecy.specs.Same.{SameList, SameMem, Same, SameFinal}
 use Rattle.secrecy.proofs.Theorems.{two-runs}
 use Rattle.script.specs.Line.{blank}
 use Rattle.script.specs.Reader.{Fed, fed, startOf, byteOf, feedOf}
-use Rattle.script.specs.Answer.{answerBy, pcText, registerText, registersText, stateText, endText, endedText}
+use Rattle.script.specs.Answer.{answerBy, page, writeOn, pcText, registerText, registersText, stateText, endedText}
 use Rattle.cpu.specs.Control.{withPsw}
 use Rattle.script.specs.Whole.{answerOf, joined, feedAll}
+use Rattle.script.specs.declared.Reader.{Reader}
 use Rattle.script.proofs.Whole.{fed-whole}
+use Rattle.script.proofs.Fits.{answer-fits}
 
 -- Feeding two parts is feeding them joined.
 pub feed-append : (a b : List ℕ) (s : Fed) → feedOf (a ++ b) s ≡ feedOf b (feedOf a s)
@@ -66,3 +71,22 @@ ended-same x y s = rw (s .reply, s .steps, state-same (x .ended .state) (y .ende
 pub marked-not-written : (b : ℕ) (t m n k : List ℕ) (a c : State) → Same a c → SameMem k m n
     → endedText (runOf b t a m k .ended) ≡ endedText (runOf b t c n k .ended)
 marked-not-written b t m n k a c s e = ended-same (runOf b t a m k) (runOf b t c n k) (two-runs b t a c m n k s e .0)
+
+-- ---- the room for the text
+
+-- Every answer fits its room,
+pub fits : (r : Reader) (m k : List ℕ) → length (answerBy r m k .text) ≤ 256
+fits r m k = answer-fits (r .phase) (eqb (r .used) 0) (r .number) m k
+
+-- and a text that fits stands in it from the start, with its length as the next place.
+written-at : (t l : List ℕ) (a : ℕ) → a + length t ≤ 256 → writeOn t (page l a) ≡ page (sets l a t) (a + length t)
+unfolding writeOn
+written-at [] l a h = ap (page l) (sym (add-zero a))
+written-at (b ∷ t) l a h =
+    let e : suc a + length t ≡ a + suc (length t) = omega arith in
+    rw (lt-ltb a 256 (omega arith), add-one a) (written-at t (set l a b) (suc a) (omega arith) ∙ ap (page (sets (set l a b) (suc a) t)) e)
+
+pub written : (t l : List ℕ) → length t ≤ 256 → writeOn t (page l 0) ≡ page (sets l 0 t) (length t)
+written t l h =
+    let e : 0 + length t ≡ length t = omega arith in
+    written-at t l 0 (omega arith) ∙ ap (page (sets l 0 t)) e

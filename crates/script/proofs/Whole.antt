@@ -1,23 +1,23 @@
 -- Bytes taken one by one come to the same as an input taken line by line.
 -- Assumes nothing.
-use Prim.Native.Nat.{ℕ, zero, suc, _+_, _-_, _/_, _%_, _<_, _≤_, min}
-use mathlib.Core.Path.{_≡_, refl, sym, ap, ap₂, subst, _∙_}
+use Prim.Native.Nat.{ℕ, suc, _+_, _%_, _<_, _≤_, min}
+use mathlib.Core.Path.{_≡_, refl, sym, ap, _∙_}
 use mathlib.Core.Bool.{Bool, true, false, cond, _&&_}
 use mathlib.Core.List.{List, [], _∷_, _++_}
 use native.Mathlib.Nat.{le-refl}
 use native.Mathlib.Numerals.{add-one}
 use native.Mathlib.Omega.{arith}
-use lib.Dec.{ltb, leb, eqb, eqb·suc-zero}
-use lib.ListN.{length, take, drop, set, length-append, length-take, length-drop, length-set}
-use lib.Seq.{take-all, take-suc-set, take-append-le, take-take, length-take-le}
-use borrow.Author.Tests.{ltb-true, ltb-false, lt-ltb, le-ltb, le-leb, lt-leb, eqb-true, ne-eqb}
+use lib.Dec.{ltb, eqb, eqb·suc-zero}
+use lib.ListN.{length, take, set, length-append, length-take, length-drop, length-set}
+use lib.Seq.{take-all, take-suc-set, take-append-le, length-take-le}
+use borrow.Author.Tests.{ltb-true, ltb-false, le-leb, lt-leb, eqb-true, ne-eqb}
 use Rattle.text.specs.Digits.{numberOf, decimalOf, addressOf, areHex}
-use Rattle.text.specs.Fields.{tabOf, beforeOf, beyondOf, sameOf}
+use Rattle.text.specs.Fields.{beforeOf, beyondOf, sameOf}
 use Rattle.text.specs.declared.Read.{Read}
 use Rattle.script.specs.Line.{Told, told, blank, sizeOf, budgetOf, putOf, countOf, markOf, firstOf, bodyOf, lineOf, numberAfter, wordMem, wordAt, wordMark, wordRun, areBytes}
 use Rattle.script.specs.Reader.{Fed, fed, startOf, readerAfter, byteOf, feedOf}
 use Rattle.script.specs.Answer.{answered, answerBy}
-use Rattle.script.specs.Whole.{Script, script, linesOf, leftOf, afterLine, afterLines, begin, answerOf, isEnded}
+use Rattle.script.specs.Whole.{Script, script, linesOf, leftOf, afterLine, afterLines, answerOf, isEnded}
 use Rattle.script.specs.declared.Phase.{Phase}
 use Rattle.script.specs.declared.Reader.{Reader}
 

@@ -1,15 +1,15 @@
 // The small program's language: an input taken in parts of any size, and the answer to it.
 ghost use mathlib.Core.Path.{_≡_};
-ghost use mathlib.Core.Bool.{Bool, true, false, cond, _&&_, _||_};
-ghost use mathlib.Core.List.{List, _++_};
-ghost use Prim.Native.Nat.{ℕ, _+_, _≤_, _<_, min};
-ghost use lib.Dec.{ltb, leb, eqb};
+ghost use mathlib.Core.Bool.{true, false, cond, _&&_};
+ghost use mathlib.Core.List.{_++_};
+ghost use Prim.Native.Nat.{_+_, _≤_, _<_};
+ghost use lib.Dec.{ltb, leb};
 ghost use lib.ListN.{length, take, drop, set};
 ghost use lib.Seq.{sets};
 ghost use Rattle.text.specs.Digits.{hexText, decimalText};
 ghost use Rattle.machine.specs.State.{freshState};
 ghost use Rattle.machine.specs.Run.{runOf};
-ghost use Rattle.script.specs.Line.{blank, told, sizeOf, budgetOf, isEven, areBytes, bytesOf, putOf, markFrom, countOf, markOf, firstOf, bodyOf, lineOf, nextNumber, numberAfter};
+ghost use Rattle.script.specs.Line.{blank, sizeOf, budgetOf, isEven, areBytes, bytesOf, putOf, markFrom, countOf, markOf, firstOf, bodyOf, lineOf, nextNumber, numberAfter};
 ghost use Rattle.script.specs.Reader.{fed, startOf, keptBy, keptIn, readerAfter, toldBy, byteOf, feedOf};
 ghost use Rattle.script.specs.Answer.{badText, endText, pcText, registerLine, registerText, registersText, stateText, endedText, ranOf, ranText, answerBy, page, oneOn, writeOn};
 use machine::Ended;

@@ -1,6 +1,6 @@
 -- What is written reads back as the number that it was written for, so two numbers never share a text.
 -- Assumes nothing.
-use Prim.Native.Nat.{ℕ, zero, suc, _+_, _*_, _/_, _%_, _^_, _<_, _≤_}
+use Prim.Native.Nat.{ℕ, zero, suc, _+_, _*_, _-_, _/_, _%_, _^_, _<_, _≤_}
 use mathlib.Core.Path.{_≡_, refl, sym, ap, subst, _∙_}
 use mathlib.Core.Bool.{Bool, true, false, cond}
 use mathlib.Core.List.{List, [], _∷_, _++_, append-assoc, append-nil}
@@ -161,16 +161,21 @@ module _ (base : ℕ) (low : 0 < base) (high : base ≤ 16) where
       let e : k + suc w ≡ suc (k + w) = omega arith in
       rw (e, in-front k w (n / base) (smaller base low high w n h)) (append-assoc (replicate k 48) (digitsOf base w (n / base)) (glyphOf (n % base) ∷ []))
 
--- "1 to 5 digits"
 twenty : (n : ℕ) → length (digitsOf 10 20 n) ≡ 20
 twenty n = digits-length 10 20 n
 
-short : (n : ℕ) → n < 100000 → length (decimalText n) ≤ 5
-short n h =
-    let front : digitsOf 10 20 n ≡ replicate 15 48 ++ digitsOf 10 5 n = in-front 10 (omega arith) (omega arith) 15 5 n h in
-    let many : 15 ≤ zerosOf (digitsOf 10 20 n)
-    = subst (λ (l : List ℕ). 15 ≤ zerosOf l) (sym front) (led 15 (digitsOf 10 5 n) (rw (digits-length 10 5 n) (omega arith))) in
+-- a number below 10 ^ w has at most w digits, and every number here has at most 20
+pub decimal-length : (w n : ℕ) → 0 < w → w ≤ 20 → n < 10 ^ w → length (decimalText n) ≤ w
+decimal-length w n low high h =
+    let e : 20 ≡ (20 - w) + w = omega arith in
+    let front : digitsOf 10 20 n ≡ replicate (20 - w) 48 ++ digitsOf 10 w n
+    = ap (λ (i : ℕ). digitsOf 10 i n) e ∙ in-front 10 (omega arith) (omega arith) (20 - w) w n h in
+    let many : 20 - w ≤ zerosOf (digitsOf 10 20 n)
+    = subst (λ (l : List ℕ). 20 - w ≤ zerosOf l) (sym front) (led (20 - w) (digitsOf 10 w n) (rw (digits-length 10 w n) low)) in
     rw (length-drop, twenty n) (omega arith)
+
+pub decimal-most : (n : ℕ) → length (decimalText n) ≤ 20
+decimal-most n = rw (length-drop, twenty n) (omega arith)
 
 some : (n : ℕ) → 1 ≤ length (decimalText n)
 some n =
@@ -183,7 +188,7 @@ read-decimal n h = zeros-free 10 (omega arith) (omega arith) (digitsOf 10 20 n) 
 -- a decimal of up to five digits reads back
 pub decimal-reads : (n : ℕ) → n < 100000 → decimalOf (decimalText n) ≡ Read.Number n
 decimal-reads n h =
-    rw (le-leb _ _ (some n), le-leb _ _ (short n h), unled (digitsOf 10 20 n)) (read-decimal n (omega arith))
+    rw (le-leb _ _ (some n), le-leb _ _ (decimal-length 5 n (omega arith) (omega arith) h), unled (digitsOf 10 20 n)) (read-decimal n (omega arith))
 
 -- two numbers never share a decimal
 pub decimals-differ : (n m : ℕ) → n < 10 ^ 20 → m < 10 ^ 20 → decimalText n ≡ decimalText m → n ≡ m

@@ -1,9 +1,8 @@
 // Text in the written form of our tools: fields parted by tabs, decimals without leading zeros, lower-case hex.
 ghost use mathlib.Core.Path.{_≡_};
-ghost use mathlib.Core.Bool.{_&&_};
 ghost use Prim.Native.Nat.{_≤_, _<_};
 ghost use lib.ListN.{length};
-ghost use Rattle.text.specs.Digits.{valueOf, glyphOf, numberOf, digitsOf, leadingZero, isShort, decimalOf, zerosOf, addressOf, areHex, pairOf, hexText};
+ghost use Rattle.text.specs.Digits.{valueOf, glyphOf, numberOf, digitsOf, leadingZero, decimalOf, zerosOf, addressOf, areHex, pairOf, hexText};
 ghost use Rattle.text.specs.Fields.{tabOf, beforeOf, beyondOf, sameOf};
 
 // What a field says.
