@@ -100,10 +100,11 @@ lineOf (Phase.Body n) l m k = bodyOf (beforeOf l) (beyondOf l) n m k
 lineOf (Phase.Done n b) l m k = told Phase.Bad m k
 lineOf Phase.Bad l m k = told Phase.Bad m k
 
--- the number of the next line: the bad line's own, and the next one after a good line; the last 64-bit number stays
+-- the number of the line after line n; the last 64-bit number stays
 abbrev pub nextNumber : ℕ → ℕ
 nextNumber n = cond (ltb n 18446744073709551615) (n + 1) n
 
+-- "the line number from 1": a good line's is followed by the next, and a bad line's is kept
 abbrev pub numberAfter : Phase → ℕ → ℕ
 numberAfter Phase.First n = nextNumber n
 numberAfter (Phase.Body a) n = nextNumber n

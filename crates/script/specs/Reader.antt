@@ -23,8 +23,8 @@ abbrev pub startOf : Reader
 startOf = record { phase = Phase.First; number = 1; used = 0 }
 
 -- a line's first 45 bytes are kept, since a good line has at most 44 (`long-is-bad`)
-abbrev pub keptBy : ℕ → Reader → Reader
-keptBy b r = record { phase = r .phase; number = r .number; used = cond (ltb (r .used) 45) (r .used + 1) (r .used) }
+abbrev pub keptBy : Reader → Reader
+keptBy r = record { phase = r .phase; number = r .number; used = cond (ltb (r .used) 45) (r .used + 1) (r .used) }
 
 abbrev pub keptIn : ℕ → Reader → List ℕ → List ℕ
 keptIn b r l = cond (ltb (r .used) 45) (set l (r .used) b) l
@@ -43,7 +43,7 @@ byteOf b s =
     (fed (readerAfter (toldBy (s .reader) (s .line) (s .mem) (s .marks)) (s .reader .number)) (s .line)
     (toldBy (s .reader) (s .line) (s .mem) (s .marks) .mem)
     (toldBy (s .reader) (s .line) (s .mem) (s .marks) .marks))
-    (fed (keptBy b (s .reader)) (keptIn b (s .reader) (s .line)) (s .mem) (s .marks))
+    (fed (keptBy (s .reader)) (keptIn b (s .reader) (s .line)) (s .mem) (s .marks))
 
 unfoldable pub feedOf : List ℕ → Fed → Fed
 feedOf [] s = s

@@ -284,7 +284,7 @@ fn end_line(r: Reader, line: &[u8; 45], m: &mut [u8; 16384], k: &mut [u8; 16384]
 }
 
 fn keep_byte(r: Reader, b: u8, line: &mut [u8; 45]) -> Reader
-    ensures { λ n. ⌜ n ≡ keptBy b r ⌝ }
+    ensures { λ n. ⌜ n ≡ keptBy r ⌝ }
     ensures { λ _. ⌜ now (line .exit) ≡ keptIn b r (now (line .entry)) ⌝ }
 {
     let phase = r.phase;

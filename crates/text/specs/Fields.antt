@@ -1,4 +1,4 @@
--- Fields of a line (document 01, "fields parted by tabs"), and text that is written.
+-- Fields of a line (document 01, "fields parted by tabs").
 -- Assumes nothing.
 use Prim.Native.Nat.{ℕ, suc, _+_}
 use mathlib.Core.Bool.{Bool, true, false, cond, _&&_}
