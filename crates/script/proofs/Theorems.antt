@@ -90,3 +90,17 @@ pub written : (t l : List ℕ) → length t ≤ 256 → writeOn t (page l 0) ≡
 written t l h =
     let e : 0 + length t ≡ length t = omega arith in
     written-at t l 0 (omega arith) ∙ ap (page (sets l 0 t)) e
+
+-- ---- the three calls together
+
+-- `start`, any parts, then `answer`, from what their contracts ensure: the room o ends with the whole input's answer at its start, and n is its length.
+pub calls-answer : (ps : List (List ℕ)) (l o out : List ℕ) (n : ℕ) → length l ≡ 45
+    → page out n
+    ≡ writeOn
+    (answerBy (feedAll ps (fed startOf l blank blank) .reader) (feedAll ps (fed startOf l blank blank) .mem) (feedAll ps (fed startOf l blank blank) .marks) .text)
+    (page o 0)
+    → page out n ≡ page (sets o 0 (answerOf (joined ps))) (length (answerOf (joined ps)))
+calls-answer ps l o out n h e =
+    e
+    ∙ written _ o (fits (feedAll ps (fed startOf l blank blank) .reader) (feedAll ps (fed startOf l blank blank) .mem) (feedAll ps (fed startOf l blank blank) .marks))
+    ∙ ap (λ (t : List ℕ). page (sets o 0 t) (length t)) (answer-is-whole ps l h)
