@@ -1,346 +1,75 @@
-//! The files of `examples/` that `docs/BUILD31.md` walks through, and what that page says of them.
+//! The inputs of `examples/`: the stored input of `crates/examples` is made of these files, and its
+//! stored answers are what this program computes. The format is in docs/EXAMPLES.md.
+//! `WRITE_EXAMPLES=1 cargo test --test examples` writes both stored files anew.
 
-use std::collections::BTreeSet;
 use std::fs;
-use std::path::Path;
+use std::path::{Path, PathBuf};
 
-use second::isa::{data_address, decode, jump_target, needs_second, Instr};
-use second::script::answer;
-use second::state::State;
-use second::step::step;
-use second::word::Width;
+use second::script;
 
-/// The three builds.
-const BUILDS: [&str; 3] = ["build31.txt", "build32.txt", "leak.txt"];
+const NAME_WIDTH: usize = 40;
 
-/// Where the recipe begins: its test for eight.
-const RECIPE: u32 = 0x20;
-
-/// Where the recipe saves its return address.
-const SAVE: u32 = 0x30;
-
-/// The key state.
-const KEY: std::ops::Range<usize> = 0xd0..0xe0;
-
-const STARS: &str = "********";
-
-/// A file of the repository.
-fn file(place: &str) -> String {
-    let root = Path::new(env!("CARGO_MANIFEST_DIR")).join("..");
-    fs::read_to_string(root.join(place)).unwrap_or_else(|error| panic!("{place}: {error}"))
+fn repository() -> PathBuf {
+    PathBuf::from(env!("CARGO_MANIFEST_DIR")).join("..")
 }
 
-fn example(name: &str) -> String {
-    file(&format!("examples/{name}"))
-}
-
-fn page() -> String {
-    file("docs/BUILD31.md")
-}
-
-/// The answer's values on the lines with these names; of a register that isn't written, eight zeros.
-fn values<const N: usize>(input: &str, names: [&str; N]) -> [String; N] {
-    let answer = answer(input.as_bytes());
-    names.map(|name| {
-        let start = format!("{name}\t");
-        let value = answer.lines().find_map(|line| line.strip_prefix(&start));
-        value.unwrap_or("00000000").into()
-    })
-}
-
-/// The input with one more line before `run`.
-fn with_line(input: &str, line: &str) -> String {
-    input.replace("\nrun\t", &format!("\n{line}\nrun\t"))
-}
-
-/// The input without its `mark` line.
-fn without_marks(input: &str) -> String {
-    input.split_inclusive('\n').filter(|line| !line.starts_with("mark")).collect()
-}
-
-/// The lines in which two inputs differ.
-fn differences<'t>(left: &'t str, right: &'t str) -> Vec<(&'t str, &'t str)> {
-    assert_eq!(left.lines().count(), right.lines().count());
-    left.lines().zip(right.lines()).filter(|(left, right)| left != right).collect()
-}
-
-/// Memory as the lines of an input fill it.
-fn memory(input: &str) -> Vec<u8> {
-    let mut memory = Vec::new();
-    for line in input.lines() {
-        match line.split('\t').collect::<Vec<_>>()[..] {
-            ["mem", size] => memory.resize(size.parse().expect("a decimal"), 0),
-            ["at", address, bytes] => {
-                let start = usize::from_str_radix(address, 16).expect("an address");
-                let bytes = hex(bytes);
-                memory[start..start + bytes.len()].copy_from_slice(&bytes);
-            }
-            _ => {}
+/// The files below a folder, each with its path from `examples/`, in the order of these paths.
+fn inputs(folder: &Path, prefix: &str) -> Vec<(String, Vec<u8>)> {
+    let mut found = Vec::new();
+    for entry in fs::read_dir(folder).expect("examples/ can be read") {
+        let path = entry.expect("an entry can be read").path();
+        let file = path.file_name().expect("a name").to_string_lossy().into_owned();
+        if path.is_dir() {
+            found.extend(inputs(&path, &format!("{prefix}{file}/")));
+        } else if let Some(stem) = file.strip_suffix(".txt") {
+            found.push((format!("{prefix}{stem}"), fs::read(&path).expect("a file can be read")));
         }
     }
-    memory
+    found.sort();
+    found
 }
 
-fn hex(digits: &str) -> Vec<u8> {
-    let byte = |i| u8::from_str_radix(&digits[i..i + 2], 16).expect("two hex digits");
-    (0..digits.len()).step_by(2).map(byte).collect()
+/// A name, padded with dots so that every header is equally long.
+fn padded(name: &str) -> String {
+    assert!(name.len() <= NAME_WIDTH, "{name} is longer than {NAME_WIDTH} bytes");
+    format!("{name:.<NAME_WIDTH$}\n")
 }
 
-#[test]
-fn first_is_the_whole_example() {
-    let first = example("first.txt");
-    assert_eq!(first, "mem\t16\nat\t00000000\t71102111f400\nrun\t3\n");
-    assert_eq!(answer(first.as_bytes()), "end\t10\t3\npc\t00000004\nr1\t00000020\n");
-}
-
-#[test]
-fn build_31_loses_three_of_four_key_words() {
-    let build31 = example("build31.txt");
-    assert_eq!(values(&build31, ["end", "r2", "r12"]), ["10\t200", "0000000b", "000000d4"]);
-    let key = values(&build31, ["r8", "r9", "r10", "r11"]);
-    assert_eq!(key, [STARS, "0000003a", "0000003a", "0000003a"]);
-}
-
-#[test]
-fn build_32_keeps_the_key_state() {
-    let build32 = example("build32.txt");
-    assert_eq!(values(&build32, ["end", "r2", "r12"]), ["10\t200", "00000008", "000000e0"]);
-    assert_eq!(values(&build32, ["r8", "r9", "r10", "r11"]), [STARS; 4]);
-}
-
-#[test]
-fn the_leak_stops_at_its_jump() {
-    let leak = example("leak.txt");
-    assert_eq!(values(&leak, ["end", "pc", "r8"]), ["14\t138", "00000010", STARS]);
-}
-
-#[test]
-fn builds_differ_in_one_line() {
-    let [build31, build32, leak] = BUILDS.map(example);
-    let swapped = [("at\t00000036\tfbfffff56021", "at\t00000036\t6021fbfffff4")];
-    assert_eq!(differences(&build31, &build32), swapped);
-    let [(left, right)] = swapped;
-    assert!(page().contains(&format!("    < {left}\n    ---\n    > {right}\n")));
-    let ends = [("at\t0000000c\t8087819782a783b7f400", "at\t0000000c\tc0873080ec027091f400")];
-    assert_eq!(differences(&build32, &leak), ends);
-}
-
-#[test]
-fn the_page_has_the_answers() {
-    for name in BUILDS {
-        let answer = answer(example(name).as_bytes());
-        let shown = format!("    $ tools/manik examples/{name}\n\n```\n{answer}```\n");
-        assert!(page().contains(&shown), "{name}:\n{answer}");
+fn agrees(file: &str, made: &[u8]) {
+    let path = repository().join("crates/examples").join(file);
+    if std::env::var_os("WRITE_EXAMPLES").is_some() {
+        fs::write(&path, made).expect("the stored file can be written");
     }
+    let stored = fs::read(&path).expect("the stored file can be read");
+    let same = stored.iter().zip(made).take_while(|(a, b)| a == b).count();
+    assert!(stored == made, "crates/examples/{file} differs from byte {same} on");
 }
 
 #[test]
-fn answers_depend_on_no_key_byte() {
-    for build in BUILDS.map(example) {
-        for byte in ["00", "01", "30", "ff"] {
-            let other = with_line(&build, &format!("at\t000000d0\t{}", byte.repeat(16)));
-            assert_eq!(answer(other.as_bytes()), answer(build.as_bytes()), "{byte}");
-        }
+fn the_stored_input_is_made_of_the_files() {
+    let mut made = Vec::new();
+    for (name, input) in inputs(&repository().join("examples"), "") {
+        made.extend_from_slice(padded(&name).as_bytes());
+        made.extend_from_slice(format!("{:08x}", input.len()).as_bytes());
+        made.extend_from_slice(&input);
     }
+    agrees("stdin", &made);
 }
 
 #[test]
-fn without_marks_the_key_shows() {
-    let words = ["r8", "r9", "r10", "r11"];
-    let [build31, build32, leak] = BUILDS.map(|name| without_marks(&example(name)));
-    assert_eq!(values(&build31, words), ["4e4f5441", "0000003a", "0000003a", "0000003a"]);
-    assert_eq!(values(&build32, words), ["4e4f5441", "5259204b", "45592053", "54415445"]);
-    assert_eq!(values(&leak, ["end", "r9"]), ["10\t200", "00000001"]);
-    let no_key = with_line(&leak, "at\t000000d0\t00");
-    assert_eq!(values(&no_key, ["end", "r9"]), ["10\t200", "00000000"]);
-}
-
-/// The page's table of fewer layers.
-#[test]
-fn each_layer_above_eight_costs_a_key_word() {
-    let build31 = example("build31.txt");
-    for layers in 8..=11 {
-        let place = format!("{:08x}", 0x50 + 2 * layers);
-        let (input, line) = match layers {
-            11 => (build31.clone(), "none".into()),
-            _ => (with_line(&build31, &format!("at\t{place}\t04")), format!("`at {place} 04`")),
-        };
-        let cells = values(&input, ["r2", "r8", "r9", "r10", "r11", "r12"]).join(" | ");
-        let row = format!("| {layers} | {line} | {cells} |\n");
-        let row = row.replace(STARS, &format!("`{STARS}`"));
-        assert!(page().contains(&row), "{row}");
+fn the_stored_answers_are_what_this_program_computes() {
+    let mut made = String::new();
+    for (name, input) in inputs(&repository().join("examples"), "") {
+        made.push_str(&padded(&name));
+        made.push_str(&script::answer(&input));
     }
+    agrees("stdout", made.as_bytes());
 }
 
 #[test]
-fn eight_layers_do_not_find_the_fault() {
-    let names = ["r1", "r2", "r8", "r9", "r10", "r11", "r12"];
-    let eight = |name| values(&with_line(&example(name), "at\t00000060\t04"), names);
-    assert_eq!(eight("build31.txt"), eight("build32.txt"));
-}
-
-/// What the recipe does with a layer.
-struct Peel {
-    /// The layer's address and the count, as the test for eight finds them.
-    layer: u32,
-    count: u32,
-    /// The step, the place and the value of the saved return address, if it is saved.
-    saved: Option<(usize, u32, u32)>,
-}
-
-/// Every call of the recipe, and the marks of the key state after the run.
-fn peels(name: &str) -> (Vec<Peel>, Vec<u8>) {
-    let (mut state, mut memory, mut peels) = (State::fresh(), memory(&example(name)), Vec::new());
-    let mut marks = vec![0; memory.len()];
-    marks[KEY].fill(1);
-    for number in 1..=200 {
-        let [_, layer, count, ..] = state.registers.map(|register| register.value);
-        let step = step(&mut state, &mut memory, &mut marks, 0).expect("no stop");
-        if step.pc == RECIPE {
-            peels.push(Peel { layer, count, saved: None });
-        }
-        if step.pc == SAVE {
-            let place = step.address.expect("a store");
-            let saved = Some((number, place, state.registers[5].value));
-            peels.last_mut().expect("a call").saved = saved;
-        }
-    }
-    (peels, marks[KEY].to_vec())
-}
-
-/// The page's table of the stack's way down.
-#[test]
-fn the_stack_goes_down_as_the_page_says() {
-    let (peels31, marks31) = peels("build31.txt");
-    let (peels32, marks32) = peels("build32.txt");
-    assert_eq!((peels31.len(), peels32.len()), (12, 9));
-    for (i, peel) in peels31[..11].iter().enumerate() {
-        let (step, place, value) = peel.saved.expect("build 31 peels eleven layers");
-        assert_eq!(value, if i == 0 { 0x0a } else { 0x3a });
-        let build32 = match peels32.get(i).map(|other| (other, other.saved)) {
-            Some((other, Some((step, same_place, value)))) => {
-                assert_eq!((other.layer, same_place), (peel.layer, place));
-                assert_eq!(value, if i == 0 { 0x0a } else { 0x3c });
-                format!("{} | {step}", other.count)
-            }
-            Some((other, None)) => format!("{} | stops", other.count),
-            None => " | ".into(),
-        };
-        let layer = format!("| {} | {:04x} | {place:04x} |", i + 1, peel.layer);
-        let row = format!("{layer} {} | {step} | {build32} |\n", peel.count);
-        assert!(page().contains(&row), "{row}");
-    }
-    assert!(peels31[11].saved.is_none(), "the content is no layer");
-    assert_eq!(marks31, [[1; 4], [0; 4], [0; 4], [0; 4]].concat());
-    assert_eq!(marks32, [1; 16]);
-}
-
-#[test]
-fn a_cut_run_stands_at_the_first_damage() {
-    let cut = example("build31.txt").replace("run\t200", "run\t109");
-    assert_eq!(values(&cut, ["end", "r0", "r2"]), ["10\t109", "000000dc", "00000000"]);
-}
-
-/// The page's memory map.
-#[test]
-fn bytes_lie_as_the_page_says() {
-    for build in BUILDS.map(example) {
-        let memory = memory(&build);
-        assert_eq!(memory.len(), 256);
-        assert_eq!(memory[0x44..0x50], hex("0000010000000050000000d0"));
-        assert_eq!(memory[KEY], *b"NOTARY KEY STATE");
-        let rest = [0x16..0x20, 0x6a..KEY.start, KEY.end..256];
-        assert!(rest.into_iter().all(|range| memory[range].iter().all(|&byte| byte == 0)));
-        let marks = build.lines().filter(|line| line.starts_with("mark"));
-        assert_eq!(marks.collect::<Vec<_>>(), ["mark\t000000d0\t16"]);
-    }
-}
-
-/// The page's table of the certificate.
-#[test]
-fn the_certificate_is_what_the_files_hold() {
-    let page = page();
-    let row = |start| page.lines().find_map(|line| line.strip_prefix(start)?.strip_suffix(" |"));
-    let addresses = row("| Address | 0x").expect("the addresses").split(" | 0x");
-    let bytes = row("| Bytes | ").expect("the bytes").split(" | ");
-    let mut end = 0x50;
-    let mut certificate = Vec::new();
-    for (address, bytes) in addresses.zip(bytes) {
-        assert_eq!(usize::from_str_radix(address, 16), Ok(end));
-        certificate.extend(hex(bytes));
-        end = 0x50 + certificate.len();
-    }
-    assert_eq!(end, 0x6a);
-    for build in BUILDS.map(example) {
-        assert_eq!(memory(&build)[0x50..end], certificate);
-    }
-}
-
-/// An instruction in document 01's written form, with a comma between operands.
-fn written(instr: Instr, address: u32) -> String {
-    use Instr::*;
-    let operands = match instr {
-        Alu { rd, rb, .. } | Compare { rd, rb, .. } => format!("r{rd},r{rb}"),
-        Addi { rd, simm8: simm }
-        | Movi { rd, simm8: simm }
-        | CompareImmediate { rd, simm4: simm, .. } => format!("r{rd},{}", simm as i32),
-        Load { width, rd, uimm4, rb } | Store { width, rd, uimm4, rb } => {
-            format!("r{rd},{},r{rb}", uimm4 * width.bytes())
-        }
-        Ldrpc { rd, uimm8 } => {
-            format!("r{rd},{}", data_address(address, uimm8, Width::Word) as i32)
-        }
-        Mfsfr { rd, sfr } => format!("r{rd},sfr{sfr}"),
-        Jsfr { sfr } => format!("sfr{sfr}"),
-        Jr { rb } => format!("r{rb}"),
-        ShortJump { displacement, .. } | Jl { displacement } => {
-            (jump_target(address, displacement) as i32).to_string()
-        }
-        _ => panic!("{instr:?} is not in the listing"),
-    };
-    format!("{} {operands}", instr.mnemonic())
-}
-
-/// A row of the page's listing.
-struct Row {
-    address: u32,
-    bits: Vec<u8>,
-    instruction: String,
-}
-
-/// The rows that belong to a file. A heading that names files begins rows of those files, and one
-/// that names none begins rows of all three.
-fn listing(name: &str) -> Vec<Row> {
-    let (mut rows, mut belongs) = (Vec::new(), true);
-    for line in page().lines() {
-        if line.starts_with('#') {
-            belongs = line.contains(name) || !BUILDS.iter().any(|other| line.contains(other));
-        }
-        let cells: Vec<&str> = line.split('|').map(str::trim).collect();
-        let [_, address, bits, instruction, _, _] = cells[..] else { continue };
-        if let (true, Ok(address)) = (belongs, u32::from_str_radix(address, 16)) {
-            let instruction = instruction.trim_matches('`').into();
-            rows.push(Row { address, bits: hex(bits), instruction });
-        }
-    }
-    rows
-}
-
-#[test]
-fn the_listing_is_what_the_files_hold() {
-    for name in BUILDS {
-        let memory = memory(&example(name));
-        let mut listed = BTreeSet::new();
-        for Row { address, bits, instruction } in listing(name) {
-            let places = address as usize..address as usize + bits.len();
-            assert_eq!(memory[places.clone()], bits, "{name} {address:04x}");
-            let half = |i| u16::from_be_bytes([bits[i], bits[i + 1]]);
-            let (first, second) = (half(0), if bits.len() == 4 { half(2) } else { 0 });
-            assert_eq!(bits.len() == 4, needs_second(first), "{name} {address:04x}");
-            let instr = decode(first, second).expect("an instruction");
-            assert_eq!(instruction, written(instr, address), "{name} {address:04x}");
-            listed.extend(places);
-        }
-        assert_eq!(listed, (0..0x16).chain(0x20..0x44).collect(), "{name}");
+fn every_damaged_input_is_bad_and_no_other_is() {
+    for (name, input) in inputs(&repository().join("examples"), "") {
+        let is_bad = script::answer(&input).starts_with("bad\t");
+        assert_eq!(is_bad, name.starts_with("bad/"), "{name}");
     }
 }

@@ -1,0 +1,106 @@
+-- What the reader and the answer are, taken together; read this file with specs/. The proofs are in the files that it cites.
+-- Assumes nothing.
+use Prim.Native.Nat.{ℕ, zero, suc, _+_, _≤_}
+use mathlib.Core.Path.{_≡_, refl, sym, ap, ap₂, _∙_}
+use mathlib.Core.Bool.{Bool, true, false}
+use mathlib.Core.List.{List, [], _∷_, _++_}
+use native.Mathlib.Omega.{arith}
+use lib.Dec.{eqb}
+use lib.ListN.{length, getD, set}
+use lib.Seq.{sets}
+use native.Mathlib.Nat.{add-zero}
+use native.Mathlib.Numerals.{add-one}
+use borrow.Author.Tests.{lt-ltb}
+use Rattle.machine.specs.Run.{Final, runOf}
+use Rattle.cpu.specs.declared.Control.{Control}
+use Rattle.machine.specs.declared.State.{State}
+use Rattle.secrecy.specs.Same.{SameList, SameMem, Same, SameFinal}
+use Rattle.secrecy.proofs.Theorems.{two-runs}
+use Rattle.script.specs.Line.{blank}
+use Rattle.script.specs.Reader.{Fed, fed, startOf, byteOf, feedOf}
+use Rattle.script.specs.Answer.{answerBy, page, writeOn, pcText, registerText, registersText, stateText, endedText}
+use Rattle.cpu.specs.Control.{withPsw}
+use Rattle.script.specs.Whole.{answerOf, joined, feedAll}
+use Rattle.script.specs.declared.Reader.{Reader}
+use Rattle.script.proofs.Whole.{fed-whole}
+use Rattle.script.proofs.Fits.{answer-fits}
+
+-- Feeding two parts is feeding them joined.
+pub feed-append : (a b : List ℕ) (s : Fed) → feedOf (a ++ b) s ≡ feedOf b (feedOf a s)
+unfolding feedOf
+feed-append [] b s = refl
+feed-append (x ∷ a) b s = feed-append a b (byteOf x s)
+
+-- So parts of any size are the input that they make.
+pub feed-parts : (ps : List (List ℕ)) (s : Fed) → feedAll ps s ≡ feedOf (joined ps) s
+unfolding feedOf feedAll joined
+feed-parts [] s = refl
+feed-parts (p ∷ ps) s = feed-parts ps (feedOf p s) ∙ sym (feed-append p (joined ps) s)
+
+-- Whatever the parts and the bytes in the room for a line: the answer is that of the whole input.
+pub answer-is-whole : (ps : List (List ℕ)) (l : List ℕ) → length l ≡ 45
+    → answerBy (feedAll ps (fed startOf l blank blank) .reader) (feedAll ps (fed startOf l blank blank) .mem) (feedAll ps (fed startOf l blank blank) .marks) .text
+    ≡ answerOf (joined ps)
+answer-is-whole ps l h =
+    ap (λ (s : Fed). answerBy (s .reader) (s .mem) (s .marks) .text) (feed-parts ps (fed startOf l blank blank)) ∙ fed-whole (joined ps) l h
+
+-- ---- a marked register's content is not written
+
+registers-same : (n i : ℕ) (marks : List Bool) (a b : List ℕ) → SameList false marks a b → registersText n i a marks ≡ registersText n i b marks
+unfolding registersText registerText
+registers-same zero i marks a b s = refl
+registers-same (suc n) i marks a b s =
+    ap₂ (λ (x y : List ℕ). x ++ y) (go (getD marks i false) (s .equal i)) (registers-same n (i + 1) marks a b s)
+  where
+    go : (m : Bool) → (m ≡ false → getD a i 0 ≡ getD b i 0) → registerText i (getD a i 0) m ≡ registerText i (getD b i 0) m
+    go true e = refl
+    go false e = rw (e refl)
+
+-- two states that differ only where marked are written alike
+pub state-same : (a b : State) → Same a b → stateText a ≡ stateText b
+unfolding stateText withPsw
+state-same a b s =
+    ap₂ (λ (x y : List ℕ). x ++ y) (ap (λ (c : Control). pcText (c .pc)) (s .control .rest))
+    (registers-same 16 0 (a .marks) (a .regs) (b .regs) (s .regs) ∙ ap (λ (k : List Bool). registersText 16 0 (b .regs) k) (s .marks))
+
+pub ended-same : (x y : Final) → SameFinal x y → endedText (x .ended) ≡ endedText (y .ended)
+unfolding endedText
+ended-same x y s = rw (s .reply, s .steps, state-same (x .ended .state) (y .ended .state) (s .state))
+
+-- So two runs from memories that differ only in marked bytes write the same text.
+pub marked-not-written : (b : ℕ) (t m n k : List ℕ) (a c : State) → Same a c → SameMem k m n
+    → endedText (runOf b t a m k .ended) ≡ endedText (runOf b t c n k .ended)
+marked-not-written b t m n k a c s e = ended-same (runOf b t a m k) (runOf b t c n k) (two-runs b t a c m n k s e .0)
+
+-- ---- the room for the text
+
+-- Every answer fits its room,
+pub fits : (r : Reader) (m k : List ℕ) → length (answerBy r m k .text) ≤ 256
+fits r m k = answer-fits (r .phase) (eqb (r .used) 0) (r .number) m k
+
+-- and a text that fits stands in it from the start, with its length as the next place.
+written-at : (t l : List ℕ) (a : ℕ) → a + length t ≤ 256 → writeOn t (page l a) ≡ page (sets l a t) (a + length t)
+unfolding writeOn
+written-at [] l a h = ap (page l) (sym (add-zero a))
+written-at (b ∷ t) l a h =
+    let e : suc a + length t ≡ a + suc (length t) = omega arith in
+    rw (lt-ltb a 256 (omega arith), add-one a) (written-at t (set l a b) (suc a) (omega arith) ∙ ap (page (sets (set l a b) (suc a) t)) e)
+
+pub written : (t l : List ℕ) → length t ≤ 256 → writeOn t (page l 0) ≡ page (sets l 0 t) (length t)
+written t l h =
+    let e : 0 + length t ≡ length t = omega arith in
+    written-at t l 0 (omega arith) ∙ ap (page (sets l 0 t)) e
+
+-- ---- the three calls together
+
+-- `start`, any parts, then `answer`, from what their contracts ensure: the room o ends with the whole input's answer at its start, and n is its length.
+pub calls-answer : (ps : List (List ℕ)) (l o out : List ℕ) (n : ℕ) → length l ≡ 45
+    → page out n
+    ≡ writeOn
+    (answerBy (feedAll ps (fed startOf l blank blank) .reader) (feedAll ps (fed startOf l blank blank) .mem) (feedAll ps (fed startOf l blank blank) .marks) .text)
+    (page o 0)
+    → page out n ≡ page (sets o 0 (answerOf (joined ps))) (length (answerOf (joined ps)))
+calls-answer ps l o out n h e =
+    e
+    ∙ written _ o (fits (feedAll ps (fed startOf l blank blank) .reader) (feedAll ps (fed startOf l blank blank) .mem) (feedAll ps (fed startOf l blank blank) .marks))
+    ∙ ap (λ (t : List ℕ). page (sets o 0 t) (length t)) (answer-is-whole ps l h)

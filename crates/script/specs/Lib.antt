@@ -1,0 +1,4 @@
+pub mod Line
+pub mod Reader
+pub mod Answer
+pub mod Whole
