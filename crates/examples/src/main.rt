@@ -1,18 +1,11 @@
 // Runs the inputs of examples/ one after the other (docs/EXAMPLES.md), each fed in parts of 7 bytes, and writes each one's name and answer.
-ghost use Prim.Native.Nat.{_≤_};
 use libc::STDIN_FILENO;
 use libc::STDOUT_FILENO;
 use script::Reader;
 use text::Read;
 
-fn at_most(n: usize, limit: usize) -> usize
-    ensures { λ r. ⌜ r ≤ limit ⌝ }
-{
-    if n < limit { n } else { limit }
-}
-
 fn write_start(text: &[u8], n: usize) {
-    let end = at_most(n, text.len());
+    let end = word::at_most(n, text.len());
     io::write_all(STDOUT_FILENO, &text[..end]);
 }
 
@@ -49,7 +42,7 @@ fn feed_some(
     m: &mut [u8; 16384],
     k: &mut [u8; 16384],
 ) -> Reader {
-    let end = at_most(n, part.len());
+    let end = word::at_most(n, part.len());
     feed_whole(r, &mut part[..end], line, m, k)
 }
 

@@ -1,5 +1,4 @@
 // The small program of document 01: standard input to standard output, in parts of 4,096 bytes.
-ghost use Prim.Native.Nat.{_≤_};
 use libc::STDIN_FILENO;
 use libc::STDOUT_FILENO;
 use script::Reader;
@@ -70,14 +69,8 @@ fn read_all(
 }
 
 // The text's length is at most that of its room (`fits` of crates/script/proofs/Theorems.antt), so nothing is cut.
-fn at_most(n: usize, limit: usize) -> usize
-    ensures { λ r. ⌜ r ≤ limit ⌝ }
-{
-    if n < limit { n } else { limit }
-}
-
 fn write_start(text: &[u8], n: usize) {
-    let end = at_most(n, text.len());
+    let end = word::at_most(n, text.len());
     if !io::write_all(STDOUT_FILENO, &text[..end]) {
         os::fail(b"manik: standard output");
     }

@@ -110,7 +110,10 @@ fn are_bytes(h: &[u8]) -> bool
     ensures { λ r. ⌜ r ≡ areBytes (now (h .entry)) ⌝ }
 {
     let n = h.len();
-    word::both(text::are_hex(h), word::both(is_even(n), word::both(2 <= n, n <= 32)))
+    word::both(
+        text::are_hex(h),
+        word::both(is_even(n), word::both(2 <= n, n <= 32)),
+    )
 }
 
 fn put_byte(m: &mut [u8], at: usize, b: u8)
@@ -472,13 +475,6 @@ fn put_ended(out: &mut [u8; 256], e: Ended) -> usize
 
 // ---- the answer
 
-// What is larger than a limit is cut to it.
-fn at_most(n: usize, limit: usize) -> usize
-    ensures { λ r. ⌜ (r ≡ cond (ltb n limit) n limit) × (r ≤ limit) ⌝ }
-{
-    if n < limit { n } else { limit }
-}
-
 // On a fresh state and a tape of zeros.
 fn run_fresh(budget: u32, m: &mut [u8], k: &mut [u8]) -> Ended
     ensures { λ r. ⌜ r ≡ runOf budget blank freshState (now (m .entry)) (now (k .entry)) .ended ⌝ }
@@ -494,8 +490,8 @@ fn run_on(size: u32, budget: u32, m: &mut [u8], k: &mut [u8]) -> Ended
     ensures { λ _. ⌜ now (m .exit) ≡ ranOf size budget (now (m .entry)) (now (k .entry)) .mem ++ drop size (now (m .entry)) ⌝ }
     ensures { λ _. ⌜ now (k .exit) ≡ ranOf size budget (now (m .entry)) (now (k .entry)) .marks ++ drop size (now (k .entry)) ⌝ }
 {
-    let n = at_most(size as usize, m.len());
-    let j = at_most(size as usize, k.len());
+    let n = word::at_most(size as usize, m.len());
+    let j = word::at_most(size as usize, k.len());
     run_fresh(budget, &mut m[..n], &mut k[..j])
 }
 

@@ -1,16 +1,8 @@
 // Reads the cases of docs/CORPUS.md, runs each through the proved library, and writes one line for each.
-ghost use Prim.Native.Nat.{_≤_};
 use libc::STDIN_FILENO;
 use libc::STDOUT_FILENO;
 use word::ByteAddr;
 use word::Width;
-
-// What is larger than its array is cut: a case that keeps to the limits of docs/CORPUS.md is not.
-fn at_most(n: usize, limit: usize) -> usize
-    ensures { λ r. ⌜ r ≤ limit ⌝ }
-{
-    if n < limit { n } else { limit }
-}
 
 // ---- digests
 
@@ -80,7 +72,7 @@ fn put_tab(line: &mut [u8; 512], at: usize) -> usize {
 }
 
 fn write_start(line: &[u8], n: usize) {
-    let end = at_most(n, line.len());
+    let end = word::at_most(n, line.len());
     io::write_all(STDOUT_FILENO, &line[..end]);
 }
 
@@ -136,6 +128,7 @@ fn size_at(sizes: &[u8], at: u32) -> usize {
     word::load(Width::Word, sizes, ByteAddr(at)) as usize
 }
 
+// What is larger than its array is cut: a case that keeps to the limits of docs/CORPUS.md is not.
 fn one_case(
     record: &mut [u8; 160],
     sizes: &mut [u8],
@@ -144,9 +137,9 @@ fn one_case(
     tape: &mut [u8],
 ) {
     io::read_full(STDIN_FILENO, sizes);
-    let m = at_most(size_at(sizes, 0), memory.len());
-    let k = at_most(size_at(sizes, 4), marks.len());
-    let t = at_most(size_at(sizes, 8), tape.len());
+    let m = word::at_most(size_at(sizes, 0), memory.len());
+    let k = word::at_most(size_at(sizes, 4), marks.len());
+    let t = word::at_most(size_at(sizes, 8), tape.len());
     let budget = size_at(sizes, 12) as u64;
     run_case(
         record,

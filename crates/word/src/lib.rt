@@ -1,6 +1,7 @@
 // 32-bit words: bits and fields, arithmetic, addresses, and bytes of memory. Every function has an answer for every input.
 ghost use mathlib.Core.Path.{_≡_};
 ghost use Prim.Native.Nat.{ℕ, _+_, _-_, _*_, _/_, _%_, _^_, _≤_, _<_};
+ghost use lib.Dec.{ltb};
 ghost use mathlib.Core.Bool.{false, cond, Bool·beq, _&&_, _||_};
 ghost use Rattle.word.specs.Bits.{num, fieldOf, on, withField, withBit};
 ghost use Rattle.word.specs.Numbers.{wrap, sumOf, carryOf, differenceOf, borrowOf, productOf, signs, lslOf, lsrOf, asrOf, lessOf, extendOf, fitsOf};
@@ -43,6 +44,13 @@ pub fn same(a: bool, b: bool) -> bool
     ensures { λ r. ⌜ r ≡ Bool·beq a b ⌝ }
 {
     if a { b } else { !b }
+}
+
+// What is larger than a limit is cut to it.
+pub fn at_most(n: usize, limit: usize) -> usize
+    ensures { λ r. ⌜ (r ≡ cond (ltb n limit) n limit) × (r ≤ limit) ⌝ }
+{
+    if n < limit { n } else { limit }
 }
 
 // ---- bits and fields

@@ -11,7 +11,7 @@ slice-relend-prefix-feed-whole : tie.Need-slice-relend-prefix-feed-whole
 slice-relend-prefix-feed-whole c = search needs
 
 slice-aggregate-feed-whole : tie.Need-slice-aggregate-feed-whole
-slice-aggregate-feed-whole c = sym (length-take-le _ _ (c .before .at-most .ensures))
+slice-aggregate-feed-whole c = sym (length-take-le _ _ (c .before .at-most .ensures .1))
 
 feed-whole-requires : tie.Need-feed-whole-requires
 feed-whole-requires c κs = search needs

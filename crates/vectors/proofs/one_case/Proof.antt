@@ -32,19 +32,19 @@ slice-relend-prefix-run-case : tie.Need-slice-relend-prefix-run-case
 slice-relend-prefix-run-case c = search needs
 
 slice-aggregate-run-case : tie.Need-slice-aggregate-run-case
-slice-aggregate-run-case c = sym (length-take-le _ _ (c .before .before .before .before .before .before .before .before .before .before .at-most .ensures))
+slice-aggregate-run-case c = sym (length-take-le _ _ (c .before .before .before .before .before .before .before .before .before .before .at-most .ensures .1))
 
 slice-relend-prefix-run-case-2 : tie.Need-slice-relend-prefix-run-case-2
 slice-relend-prefix-run-case-2 c = search needs
 
 slice-aggregate-run-case-2 : tie.Need-slice-aggregate-run-case-2
-slice-aggregate-run-case-2 c = sym (length-take-le _ _ (c .before .before .before .before .before .before .before .before .at-most2 .ensures))
+slice-aggregate-run-case-2 c = sym (length-take-le _ _ (c .before .before .before .before .before .before .before .before .at-most2 .ensures .1))
 
 slice-relend-prefix-run-case-3 : tie.Need-slice-relend-prefix-run-case-3
 slice-relend-prefix-run-case-3 c = search needs
 
 slice-aggregate-run-case-3 : tie.Need-slice-aggregate-run-case-3
-slice-aggregate-run-case-3 c = sym (length-take-le _ _ (c .before .before .before .before .before .before .at-most3 .ensures))
+slice-aggregate-run-case-3 c = sym (length-take-le _ _ (c .before .before .before .before .before .before .at-most3 .ensures .1))
 
 run-case-requires : tie.Need-run-case-requires
 run-case-requires c κs = search needs

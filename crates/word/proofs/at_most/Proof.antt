@@ -1,7 +1,7 @@
 use native.Mathlib.Omega.{arith}
 use borrow.Author.Tests.{lt-ltb, le-ltb}
-use Rattle.script.proofs.at_most.Statement.{statement}
-use Rattle.script.proofs.at_most.Tie as tie
+use Rattle.word.proofs.at_most.Statement.{statement}
+use Rattle.word.proofs.at_most.Tie as tie
 
 returns : tie.Need-returns
 returns c = (rw (lt-ltb _ _ (c .if1 .taken)), omega arith)
