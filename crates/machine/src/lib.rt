@@ -7,9 +7,11 @@ ghost use lib.Dec.{ltb, eqb};
 ghost use Rattle.word.specs.Bits.{on};
 ghost use Rattle.word.specs.Bytes.{bytesOf, inside};
 ghost use Rattle.word.specs.declared.Width.{Width};
+ghost use Rattle.isa.specs.declared.Instr.{Instr};
 ghost use Rattle.cpu.specs.Entries.{watched};
+ghost use Rattle.cpu.specs.Exec.{exec, dataAddress};
 ghost use Rattle.cpu.specs.declared.Reach.{Reach};
-ghost use Rattle.marks.specs.Marks.{with};
+ghost use Rattle.marks.specs.Marks.{with, taint, shortBlocked, longBlocked};
 ghost use Rattle.machine.specs.State.{numberOf, freshState, stateOf, valueIn, outOfForm};
 ghost use Rattle.machine.specs.Fetch.{found, halfAt, secondHalf, isLongKind, restOf, fetchOf};
 ghost use Rattle.machine.specs.Step.{lowest, orBreak, lineOr, chosen, storedTo, markedTo, watchedBy, loadAct, storeAct, actOf, doneOf, actOut, actMem, actMarks, instrStep, entryOut, stepOf};
@@ -17,12 +19,18 @@ ghost use Rattle.machine.specs.Run.{badLength, judge, stepsOf, runOf};
 use cpu::Control;
 use cpu::Effect;
 use cpu::Reach;
+use isa::AluOp;
+use isa::CmpOp;
+use isa::CondOp;
 use isa::Decoded;
 use isa::Instr;
 use isa::Kind;
+use isa::LongOp;
+use isa::ShortOp;
 use marks::Flags;
 use marks::Taint;
 use word::ByteAddr;
+use word::HalfDisp;
 use word::Width;
 
 // Sixteen registers, each with a mark; the marks of TF and CY; and what is never marked.
@@ -463,48 +471,80 @@ fn store_at(marked: bool, w: Width, at: ByteAddr, f: Flags, c: Control, m: &[u8]
     stop_outside(marked)
 }
 
+fn load_pc(d: u32, n: u32, f: Flags, c: Control, m: &[u8], mk: &[u8]) -> Act
+    ensures { λ r. ⌜ r ≡ loadAct Width.Word (dataAddress Width.Word (c .pc) n) d f c (now (m .entry)) (now (mk .entry)) ⌝ }
+{
+    let at = cpu::data_address(Width::Word, c.pc, n);
+    load_at(false, Width::Word, at, d, f, c, m, mk)
+}
+
+fn load_on(w: Width, d: u32, n: u32, y: Val, f: Flags, c: Control, m: &[u8], mk: &[u8]) -> Act
+    ensures { λ r. ⌜ r ≡ cond (y .mark) (Act.Stop Reply.MarkedOperand) (loadAct w (dataAddress w (y .value) n) d f c (now (m .entry)) (now (mk .entry))) ⌝ }
+{
+    let at = cpu::data_address(w, y.value, n);
+    load_at(y.mark, w, at, d, f, c, m, mk)
+}
+
+fn alu_on(op: AluOp, d: u32, x: Val, y: Val, f: Flags, c: Control) -> Act
+    ensures { λ r. ⌜ r ≡ Act.Does (exec (Instr.Alu op d 0) (x .value) (y .value) 0 c) (taint (Instr.Alu op 0 0) (x .mark) (y .mark) false false f) Reach.Nowhere ⌝ }
+{
+    let e = cpu::alu(op, d, x.value, y.value, c);
+    does(e, marks::mark_alu(op, x.mark, y.mark, f))
+}
+
+fn short_on(op: ShortOp, d: HalfDisp, f: Flags, c: Control) -> Act
+    ensures { λ r. ⌜ r ≡ cond (shortBlocked op f) (Act.Stop Reply.MarkedOperand) (Act.Does (exec (Instr.ShortJump op d) 0 0 0 c) (with false f) Reach.Nowhere) ⌝ }
+{
+    let e = cpu::short_jump(op, d, c);
+    stop_if(marks::is_short_blocked(op, f), does(e, keep(f)))
+}
+
+fn long_on(op: LongOp, d: HalfDisp, f: Flags, c: Control) -> Act
+    ensures { λ r. ⌜ r ≡ cond (longBlocked op f) (Act.Stop Reply.MarkedOperand) (Act.Does (exec (Instr.LongJump op d) 0 0 0 c) (with false f) Reach.Nowhere) ⌝ }
+{
+    let e = cpu::long_jump(op, d, c);
+    stop_if(marks::is_long_blocked(op, f), does(e, keep(f)))
+}
+
+fn compare_on(op: CmpOp, x: Val, y: Val, f: Flags, c: Control) -> Act
+    ensures { λ r. ⌜ r ≡ Act.Does (exec (Instr.Cmp op 0 0) (x .value) (y .value) 0 c) (with false (record { tf = x .mark || y .mark; cy = f .cy })) Reach.Nowhere ⌝ }
+{
+    let e = cpu::compare(op, x.value, y.value, c);
+    does(e, marks::mark_tf(word::either(x.mark, y.mark), f))
+}
+
+fn conditional_on(op: CondOp, t: bool, d: u32, x: Val, y: Val, f: Flags, c: Control) -> Act
+    ensures { λ r. ⌜ r ≡ Act.Does (exec (Instr.Cond op t d 0) (x .value) (y .value) 0 c) (taint (Instr.Cond op t 0 0) (x .mark) (y .mark) false (on (c .psw) 8) f) Reach.Nowhere ⌝ }
+{
+    let e = cpu::conditional(op, t, d, x.value, y.value, c);
+    let tf = word::is_on(c.psw, 8);
+    does(e, marks::mark_conditional(op, t, tf, x.mark, y.mark, f))
+}
+
 fn act_on(i: Instr, x: Val, y: Val, f: Flags, c: Control, m: &[u8], mk: &[u8]) -> Act
     ensures { λ r. ⌜ r ≡ actOf i x y f c (now (m .entry)) (now (mk .entry)) ⌝ }
 {
     let u = x.value;
     let v = y.value;
     match i {
-        Instr::Alu(op, d, _) => does(
-            cpu::alu(op, d, u, v, c),
-            marks::mark_alu(op, x.mark, y.mark, f),
-        ),
+        Instr::Alu(op, d, _) => alu_on(op, d, x, y, f, c),
         Instr::ShiftImm(op, d, n) => does(
             cpu::shift_imm(op, d, n, u, c),
             marks::mark_reg(x.mark, f),
         ),
-        Instr::Cmp(op, _, _) => does(
-            cpu::compare(op, u, v, c),
-            marks::mark_tf(word::either(x.mark, y.mark), f),
-        ),
+        Instr::Cmp(op, _, _) => compare_on(op, x, y, f, c),
         Instr::CmpImm(op, _, n) => does(cpu::compare_imm(op, n, u, c), marks::mark_tf(x.mark, f)),
-        Instr::Cond(op, t, d, _) => does(
-            cpu::conditional(op, t, d, u, v, c),
-            marks::mark_conditional(op, t, word::is_on(c.psw, 8), x.mark, y.mark, f),
-        ),
+        Instr::Cond(op, t, d, _) => conditional_on(op, t, d, x, y, f, c),
         Instr::CondImm(t, d, n) => does(
             cpu::conditional_imm(t, d, n, u, c),
             marks::mark_reg(word::either(f.tf, x.mark), f),
         ),
-        Instr::Ldrpc(d, n) => load_at(
-            false,
-            Width::Word,
-            cpu::data_address(Width::Word, c.pc, n),
-            d,
-            f,
-            c,
-            m,
-            mk,
-        ),
+        Instr::Ldrpc(d, n) => load_pc(d, n, f, c, m, mk),
         Instr::Imm(op, d, n) => does(
             cpu::immediate(op, d, n, u, c),
             marks::mark_imm(op, x.mark, f),
         ),
-        Instr::Load(w, d, n, _) => load_at(y.mark, w, cpu::data_address(w, v, n), d, f, c, m, mk),
+        Instr::Load(w, d, n, _) => load_on(w, d, n, y, f, c, m, mk),
         Instr::Store(w, _, n, _) => store_at(y.mark, w, cpu::data_address(w, v, n), f, c, m),
         Instr::Mfsfr(d, n) => does(
             cpu::mfsfr(d, n, c),
@@ -515,14 +555,8 @@ fn act_on(i: Instr, x: Val, y: Val, f: Flags, c: Control, m: &[u8], mk: &[u8]) -
         Instr::Jrl(_) => stop_if(y.mark, does(cpu::jrl(v, c), keep(f))),
         Instr::Jsfr(n) => stop_if(marks::is_sfr_marked(n, f), does(cpu::jsfr(n, c), keep(f))),
         Instr::Swint(n) => does(cpu::swint(n, c), keep(f)),
-        Instr::ShortJump(op, d) => stop_if(
-            marks::is_short_blocked(op, f),
-            does(cpu::short_jump(op, d, c), keep(f)),
-        ),
-        Instr::LongJump(op, d) => stop_if(
-            marks::is_long_blocked(op, f),
-            does(cpu::long_jump(op, d, c), keep(f)),
-        ),
+        Instr::ShortJump(op, d) => short_on(op, d, f, c),
+        Instr::LongJump(op, d) => long_on(op, d, f, c),
     }
 }
 
@@ -707,6 +741,29 @@ fn wide(x: u8) -> u32
     x as u32
 }
 
+fn end_at(
+    regs: [u32; 16],
+    marks: [bool; 16],
+    flags: Flags,
+    control: Control,
+    steps: usize,
+    reply: Reply,
+) -> Ended
+    ensures { λ r. ⌜ r ≡ record { state = stateOf regs marks flags control; steps = steps; reply = reply } ⌝ }
+{
+    let state = State {
+        regs,
+        marks,
+        flags,
+        control,
+    };
+    Ended {
+        state,
+        steps,
+        reply,
+    }
+}
+
 fn steps(b: usize, t: &[u8], s: State, m: &mut [u8], k: &mut [u8]) -> Ended
     requires { ⌜ b ≤ length (now t) ⌝ }
     ensures { λ r. ⌜ r ≡ stepsOf b 0 (now (t .entry)) s (now (m .entry)) (now (k .entry)) .ended ⌝ }
@@ -722,17 +779,7 @@ fn steps(b: usize, t: &[u8], s: State, m: &mut [u8], k: &mut [u8]) -> Ended
         let out = step(wide(t[n]), regs, marks, flags, control, m, k);
         match out {
             Out::Stop(reply) => {
-                let state = State {
-                    regs,
-                    marks,
-                    flags,
-                    control,
-                };
-                return Ended {
-                    state,
-                    steps: n,
-                    reply,
-                };
+                return end_at(regs, marks, flags, control, n, reply);
             }
             Out::Go(d) => {
                 let f = d.flags;
@@ -754,17 +801,7 @@ fn steps(b: usize, t: &[u8], s: State, m: &mut [u8], k: &mut [u8]) -> Ended
             }
         }
     }
-    let state = State {
-        regs,
-        marks,
-        flags,
-        control,
-    };
-    Ended {
-        state,
-        steps: n,
-        reply: Reply::Budget,
-    }
+    end_at(regs, marks, flags, control, n, Reply::Budget)
 }
 
 // A run over any memory, marks, state, tape and budget: refusals 1 to 6, or steps until the budget is used up or one stops.

@@ -34,6 +34,9 @@ step-requires c κs = search needs
 enum-known-out : tie.Need-enum-known-out Inv-loop μ-loop
 enum-known-out c = search needs
 
+end-at-requires : tie.Need-end-at-requires Inv-loop μ-loop
+end-at-requires c κs = search needs
+
 same-length : tie.Need-same-length Inv-loop μ-loop
 same-length c = search needs
 
@@ -42,10 +45,10 @@ same-length-2 c = search needs
 
 returns : tie.Need-returns Inv-loop μ-loop
 returns c =
-    let o = sym (rw (c .before .before .before .before .before .before .before .before .before .before .wide .ensures) at (c .before .before .before .before .before .before .before .step .ensures .0)) ∙ c .before .out .given .1 in
-    let e = sym (steps-stop _ _ _ _ _ _ _ (c .before .before .before .before .before .before .before .before .before .before .before .before .loop-test .taken) o) ∙ c .before .before .before .before .before .before .before .before .before .before .before .before .before .loop .inv .3 in
-    let g = rw (c .before .before .before .before .before .before .before .before .before .before .wide .ensures) at (c .before .before .before .before .before .before .before .step .ensures .1) in
-    (ap (λ (f : Final). f .ended) e, (g .0 ∙ ap (λ (f : Final). f .mem) e, g .1 ∙ ap (λ (f : Final). f .marks) e))
+    let o = sym (rw (c .before .before .before .before .before .before .before .before .before .before .before .wide .ensures) at (c .before .before .before .before .before .before .before .before .step .ensures .0)) ∙ c .before .before .out .given .1 in
+    let e = sym (steps-stop _ _ _ _ _ _ _ (c .before .before .before .before .before .before .before .before .before .before .before .before .before .loop-test .taken) o) ∙ c .before .before .before .before .before .before .before .before .before .before .before .before .before .before .loop .inv .3 in
+    let g = rw (c .before .before .before .before .before .before .before .before .before .before .before .wide .ensures) at (c .before .before .before .before .before .before .before .before .step .ensures .1) in
+    (c .end-at .ensures ∙ ap (λ (f : Final). f .ended) e, (g .0 ∙ ap (λ (f : Final). f .mem) e, g .1 ∙ ap (λ (f : Final). f .marks) e))
 
 enum-known-out-2 : tie.Need-enum-known-out-2 Inv-loop μ-loop
 enum-known-out-2 c = search needs
@@ -110,6 +113,9 @@ loop-again-3 c =
       c .before .before .before .before .before .before .before .before .before .before .before .before .before .before .before .before .before .before .loop .inv .4,
     )
 
+end-at-requires-2 : tie.Need-end-at-requires-2 Inv-loop μ-loop
+end-at-requires-2 c κs = search needs
+
 same-length-3 : tie.Need-same-length-3 Inv-loop μ-loop
 same-length-3 c = search needs
 
@@ -118,8 +124,8 @@ same-length-4 c = search needs
 
 returns-2 : tie.Need-returns-2 Inv-loop μ-loop
 returns-2 c =
-    let e = sym (steps-end _ _ _ _ _ _ (c .loop-test .left)) ∙ c .before .loop .inv .3 in
-    (ap (λ (f : Final). f .ended) e, (ap (λ (f : Final). f .mem) e, ap (λ (f : Final). f .marks) e))
+    let e = sym (steps-end _ _ _ _ _ _ (c .before .loop-test .left)) ∙ c .before .before .loop .inv .3 in
+    (c .end-at2 .ensures ∙ ap (λ (f : Final). f .ended) e, (ap (λ (f : Final). f .mem) e, ap (λ (f : Final). f .marks) e))
 
 pub steps-spec : {M : Type 1} → statement M
 steps-spec =
@@ -132,6 +138,7 @@ steps-spec =
     wide-requires
     step-requires
     enum-known-out
+    end-at-requires
     same-length
     same-length-2
     returns
@@ -148,6 +155,7 @@ steps-spec =
     loop-again-2
     loop-less-3
     loop-again-3
+    end-at-requires-2
     same-length-3
     same-length-4
     returns-2)
