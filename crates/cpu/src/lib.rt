@@ -8,9 +8,10 @@ ghost use Rattle.word.specs.Bits.{num};
 ghost use Rattle.word.specs.Numbers.{sumOf, differenceOf};
 ghost use Rattle.word.specs.declared.Width.{Width};
 ghost use Rattle.isa.specs.declared.Instr.{Instr};
-ghost use Rattle.cpu.specs.Control.{freshControl, withPc, withPsw, withRa, withIpc, withIbase, withUsreg, withHwdbg, withBp0, withBp1, withWp0, withWp1, withPending, withTimer, tf, cy, withTf, withCy, sfrOf};
-ghost use Rattle.cpu.specs.Entries.{enter, swintEntry, timerEntry, externalEntry, debugEntry, isBreak, watchHit, watched, fallen};
-ghost use Rattle.cpu.specs.Exec.{onward, goTo, linked, jump, wants, branch, accepted, timerWritten, pswWritten, written, leave, sets, moves, exec, two, operandsOf, dataAddress};
+ghost use Rattle.cpu.specs.Control.{freshControl, withPc, withSfr, withPsw, withRa, withIpc, withHwdbg, withPending, withTimer, withTf, withCy, sfrOf};
+ghost use Rattle.cpu.specs.Entries.{vector, enter, entered, isBreak, watchHit, watchEntry, fallen};
+ghost use Rattle.cpu.specs.declared.Entry.{Entry};
+ghost use Rattle.cpu.specs.Exec.{onward, goTo, linked, jump, wants, branch, accepted, timerWritten, pswWritten, written, leave, putsReg, moves, exec, two, sourcesOf, dataAddress};
 use isa::AluOp;
 use isa::CmpImmOp;
 use isa::CmpOp;
@@ -40,7 +41,7 @@ pub struct Control {
     pub pending: bool,
 }
 
-// What an instruction does to the values: the control part after it, a register (16: none) and its value, and whether it wrote TIMER.
+// What an instruction does to the values: the control part after it, a register (NO_REG: none) and its value, and whether it wrote TIMER.
 pub struct Effect {
     pub control: Control,
     pub reg: u32,
@@ -49,17 +50,25 @@ pub struct Effect {
 }
 
 // The registers that an instruction reads.
-pub struct Operands {
+pub struct Sources {
     pub first: u32,
     pub second: u32,
 }
 
-// Where an instruction reaches memory.
-pub enum Reach {
-    Nowhere,
-    Reads(Width, ByteAddr),
-    Writes(Width, ByteAddr),
+// An entry: a swint's four bits, the hit that a debug entry shows, and the line of an external one.
+pub enum Entry {
+    Nothing,
+    Swint(u32),
+    Debug(u32),
+    Timer,
+    External(u32),
 }
+
+// There are sixteen registers: this is none of them.
+pub const NO_REG: u32 = 16;
+
+// A register that an instruction does not look at.
+const UNREAD: u32 = 0;
 
 // ---- the control part
 
@@ -83,263 +92,64 @@ pub fn fresh_control() -> Control
     }
 }
 
-pub fn with_pc(c: Control, pc: u32) -> Control
-    ensures { λ r. ⌜ r ≡ withPc c pc ⌝ }
+pub fn with_pc(c: Control, a: ByteAddr) -> Control
+    ensures { λ r. ⌜ r ≡ withPc c a ⌝ }
 {
-    Control {
-        pc,
-        psw: c.psw,
-        ra: c.ra,
-        ipc: c.ipc,
-        timer: c.timer,
-        ibase: c.ibase,
-        usreg: c.usreg,
-        hwdbg: c.hwdbg,
-        bp0: c.bp0,
-        bp1: c.bp1,
-        wp0: c.wp0,
-        wp1: c.wp1,
-        pending: c.pending,
-    }
+    Control { pc: a.0, ..c }
 }
 
 pub fn with_psw(c: Control, psw: u32) -> Control
     ensures { λ r. ⌜ r ≡ withPsw c psw ⌝ }
 {
-    Control {
-        pc: c.pc,
-        psw,
-        ra: c.ra,
-        ipc: c.ipc,
-        timer: c.timer,
-        ibase: c.ibase,
-        usreg: c.usreg,
-        hwdbg: c.hwdbg,
-        bp0: c.bp0,
-        bp1: c.bp1,
-        wp0: c.wp0,
-        wp1: c.wp1,
-        pending: c.pending,
-    }
+    Control { psw, ..c }
 }
 
 pub fn with_ra(c: Control, ra: u32) -> Control
     ensures { λ r. ⌜ r ≡ withRa c ra ⌝ }
 {
-    Control {
-        pc: c.pc,
-        psw: c.psw,
-        ra,
-        ipc: c.ipc,
-        timer: c.timer,
-        ibase: c.ibase,
-        usreg: c.usreg,
-        hwdbg: c.hwdbg,
-        bp0: c.bp0,
-        bp1: c.bp1,
-        wp0: c.wp0,
-        wp1: c.wp1,
-        pending: c.pending,
-    }
+    Control { ra, ..c }
 }
 
 pub fn with_ipc(c: Control, ipc: u32) -> Control
     ensures { λ r. ⌜ r ≡ withIpc c ipc ⌝ }
 {
-    Control {
-        pc: c.pc,
-        psw: c.psw,
-        ra: c.ra,
-        ipc,
-        timer: c.timer,
-        ibase: c.ibase,
-        usreg: c.usreg,
-        hwdbg: c.hwdbg,
-        bp0: c.bp0,
-        bp1: c.bp1,
-        wp0: c.wp0,
-        wp1: c.wp1,
-        pending: c.pending,
-    }
-}
-
-pub fn with_ibase(c: Control, ibase: u32) -> Control
-    ensures { λ r. ⌜ r ≡ withIbase c ibase ⌝ }
-{
-    Control {
-        pc: c.pc,
-        psw: c.psw,
-        ra: c.ra,
-        ipc: c.ipc,
-        timer: c.timer,
-        ibase,
-        usreg: c.usreg,
-        hwdbg: c.hwdbg,
-        bp0: c.bp0,
-        bp1: c.bp1,
-        wp0: c.wp0,
-        wp1: c.wp1,
-        pending: c.pending,
-    }
-}
-
-pub fn with_usreg(c: Control, usreg: u32) -> Control
-    ensures { λ r. ⌜ r ≡ withUsreg c usreg ⌝ }
-{
-    Control {
-        pc: c.pc,
-        psw: c.psw,
-        ra: c.ra,
-        ipc: c.ipc,
-        timer: c.timer,
-        ibase: c.ibase,
-        usreg,
-        hwdbg: c.hwdbg,
-        bp0: c.bp0,
-        bp1: c.bp1,
-        wp0: c.wp0,
-        wp1: c.wp1,
-        pending: c.pending,
-    }
+    Control { ipc, ..c }
 }
 
 pub fn with_hwdbg(c: Control, hwdbg: u32) -> Control
     ensures { λ r. ⌜ r ≡ withHwdbg c hwdbg ⌝ }
 {
-    Control {
-        pc: c.pc,
-        psw: c.psw,
-        ra: c.ra,
-        ipc: c.ipc,
-        timer: c.timer,
-        ibase: c.ibase,
-        usreg: c.usreg,
-        hwdbg,
-        bp0: c.bp0,
-        bp1: c.bp1,
-        wp0: c.wp0,
-        wp1: c.wp1,
-        pending: c.pending,
-    }
-}
-
-pub fn with_bp0(c: Control, bp0: u32) -> Control
-    ensures { λ r. ⌜ r ≡ withBp0 c bp0 ⌝ }
-{
-    Control {
-        pc: c.pc,
-        psw: c.psw,
-        ra: c.ra,
-        ipc: c.ipc,
-        timer: c.timer,
-        ibase: c.ibase,
-        usreg: c.usreg,
-        hwdbg: c.hwdbg,
-        bp0,
-        bp1: c.bp1,
-        wp0: c.wp0,
-        wp1: c.wp1,
-        pending: c.pending,
-    }
-}
-
-pub fn with_bp1(c: Control, bp1: u32) -> Control
-    ensures { λ r. ⌜ r ≡ withBp1 c bp1 ⌝ }
-{
-    Control {
-        pc: c.pc,
-        psw: c.psw,
-        ra: c.ra,
-        ipc: c.ipc,
-        timer: c.timer,
-        ibase: c.ibase,
-        usreg: c.usreg,
-        hwdbg: c.hwdbg,
-        bp0: c.bp0,
-        bp1,
-        wp0: c.wp0,
-        wp1: c.wp1,
-        pending: c.pending,
-    }
-}
-
-pub fn with_wp0(c: Control, wp0: u32) -> Control
-    ensures { λ r. ⌜ r ≡ withWp0 c wp0 ⌝ }
-{
-    Control {
-        pc: c.pc,
-        psw: c.psw,
-        ra: c.ra,
-        ipc: c.ipc,
-        timer: c.timer,
-        ibase: c.ibase,
-        usreg: c.usreg,
-        hwdbg: c.hwdbg,
-        bp0: c.bp0,
-        bp1: c.bp1,
-        wp0,
-        wp1: c.wp1,
-        pending: c.pending,
-    }
-}
-
-pub fn with_wp1(c: Control, wp1: u32) -> Control
-    ensures { λ r. ⌜ r ≡ withWp1 c wp1 ⌝ }
-{
-    Control {
-        pc: c.pc,
-        psw: c.psw,
-        ra: c.ra,
-        ipc: c.ipc,
-        timer: c.timer,
-        ibase: c.ibase,
-        usreg: c.usreg,
-        hwdbg: c.hwdbg,
-        bp0: c.bp0,
-        bp1: c.bp1,
-        wp0: c.wp0,
-        wp1,
-        pending: c.pending,
-    }
+    Control { hwdbg, ..c }
 }
 
 pub fn with_pending(c: Control, pending: bool) -> Control
     ensures { λ r. ⌜ r ≡ withPending c pending ⌝ }
 {
-    Control {
-        pc: c.pc,
-        psw: c.psw,
-        ra: c.ra,
-        ipc: c.ipc,
-        timer: c.timer,
-        ibase: c.ibase,
-        usreg: c.usreg,
-        hwdbg: c.hwdbg,
-        bp0: c.bp0,
-        bp1: c.bp1,
-        wp0: c.wp0,
-        wp1: c.wp1,
-        pending,
-    }
+    Control { pending, ..c }
 }
 
 pub fn with_timer(c: Control, timer: u32, pending: bool) -> Control
     ensures { λ r. ⌜ r ≡ withTimer c timer pending ⌝ }
 {
-    Control {
-        pc: c.pc,
-        psw: c.psw,
-        ra: c.ra,
-        ipc: c.ipc,
-        timer,
-        ibase: c.ibase,
-        usreg: c.usreg,
-        hwdbg: c.hwdbg,
-        bp0: c.bp0,
-        bp1: c.bp1,
-        wp0: c.wp0,
-        wp1: c.wp1,
-        pending,
+    Control { timer, pending, ..c }
+}
+
+pub fn with_sfr(n: u32, c: Control, x: u32) -> Control
+    ensures { λ r. ⌜ r ≡ withSfr n c x ⌝ }
+{
+    match n {
+        0 => Control { psw: x, ..c },
+        1 => Control { ra: x, ..c },
+        2 => Control { ipc: x, ..c },
+        3 => Control { timer: x, ..c },
+        4 => Control { ibase: x, ..c },
+        5 => Control { usreg: x, ..c },
+        6 => Control { hwdbg: x, ..c },
+        7 => Control { bp0: x, ..c },
+        8 => Control { bp1: x, ..c },
+        9 => Control { wp0: x, ..c },
+        10 => Control { wp1: x, ..c },
+        _ => c,
     }
 }
 
@@ -364,41 +174,59 @@ pub fn sfr_of(n: u32, c: Control) -> u32
 
 // ---- entries
 
+fn vector_at(low: u32, c: Control) -> ByteAddr
+    ensures { λ r. ⌜ r ≡ vector low c ⌝ }
+{
+    ByteAddr(word::with_field(c.ibase, 0, 8, low))
+}
+
 fn enter_at(low: u32, c: Control) -> Control
     ensures { λ r. ⌜ r ≡ enter low c ⌝ }
 {
     let p = word::with_bit(c.psw, 6, word::is_on(c.psw, 3));
     let on = with_psw(c, word::with_bit(p, 3, true));
-    with_pc(with_ipc(on, c.pc), word::with_field(c.ibase, 0, 8, low))
+    with_pc(with_ipc(on, c.pc), vector_at(low, c))
 }
 
-pub fn enter_swint(n: u32, c: Control) -> Control
-    ensures { λ r. ⌜ r ≡ swintEntry n c ⌝ }
+fn enter_swint(n: u32, c: Control) -> Control
+    ensures { λ r. ⌜ r ≡ entered (Entry.Swint n) c ⌝ }
 {
     let p = word::with_field(c.psw, 16, 4, n);
     enter_at(4, with_psw(c, word::with_bit(p, 0, true)))
 }
 
-pub fn enter_timer(c: Control) -> Control
-    ensures { λ r. ⌜ r ≡ timerEntry c ⌝ }
+fn enter_debug(hit: u32, c: Control) -> Control
+    ensures { λ r. ⌜ r ≡ entered (Entry.Debug hit) c ⌝ }
+{
+    let p = word::with_field(c.psw, 16, 4, 15);
+    let clear = with_psw(c, word::with_bit(p, 0, false));
+    enter_at(4, with_hwdbg(clear, word::with_field(c.hwdbg, 6, 3, hit)))
+}
+
+fn enter_timer(c: Control) -> Control
+    ensures { λ r. ⌜ r ≡ entered Entry.Timer c ⌝ }
 {
     let t = with_psw(c, word::with_bit(c.psw, 2, true));
     enter_at(8, with_pending(t, false))
 }
 
-pub fn enter_external(i: u32, c: Control) -> Control
-    ensures { λ r. ⌜ r ≡ externalEntry i c ⌝ }
+fn enter_external(i: u32, c: Control) -> Control
+    ensures { λ r. ⌜ r ≡ entered (Entry.External i) c ⌝ }
 {
     let p = word::with_field(c.psw, 26, 6, word::lsl(1, i));
     enter_at(12, with_psw(c, word::with_bit(p, 1, true)))
 }
 
-pub fn enter_debug(hit: u32, c: Control) -> Control
-    ensures { λ r. ⌜ r ≡ debugEntry hit c ⌝ }
+pub fn enter(e: Entry, c: Control) -> Control
+    ensures { λ r. ⌜ r ≡ entered e c ⌝ }
 {
-    let p = word::with_field(c.psw, 16, 4, 15);
-    let clear = with_psw(c, word::with_bit(p, 0, false));
-    enter_at(4, with_hwdbg(clear, word::with_field(c.hwdbg, 6, 3, hit)))
+    match e {
+        Entry::Nothing => c,
+        Entry::Swint(n) => enter_swint(n, c),
+        Entry::Debug(hit) => enter_debug(hit, c),
+        Entry::Timer => enter_timer(c),
+        Entry::External(i) => enter_external(i, c),
+    }
 }
 
 fn is_hit(enabled: bool, a: u32, b: u32) -> bool
@@ -415,30 +243,42 @@ pub fn has_break(c: Control) -> bool
     word::either(zero, one)
 }
 
-pub fn watch_at(a: u32, c: Control) -> u32
+fn watch_hit(a: ByteAddr, c: Control) -> u32
     ensures { λ r. ⌜ r ≡ watchHit a c ⌝ }
 {
-    let zero = is_hit(word::is_on(c.hwdbg, 4), c.wp0, a);
-    let one = is_hit(word::is_on(c.hwdbg, 5), c.wp1, a);
-    flag(zero) * 2 + flag(one) * 4
+    let zero = is_hit(word::is_on(c.hwdbg, 4), c.wp0, a.0);
+    let one = is_hit(word::is_on(c.hwdbg, 5), c.wp1, a.0);
+    word::number(zero) * 2 + word::number(one) * 4
 }
 
-fn flag(b: bool) -> u32
-    ensures { λ r. ⌜ (r ≡ num b) × (r ≤ 1) ⌝ }
+// Mostly no watchpoint is enabled, and then none is compared.
+pub fn watch(a: ByteAddr, c: Control) -> Entry
+    ensures { λ r. ⌜ r ≡ watchEntry a c ⌝ }
 {
-    if b { 1 } else { 0 }
+    if word::field(c.hwdbg, 4, 2) == 0 {
+        return Entry::Nothing;
+    }
+    let hit = watch_hit(a, c);
+    if 0 < hit {
+        Entry::Debug(hit)
+    } else {
+        Entry::Nothing
+    }
 }
 
+// A match on TIMER costs the compiler fewer instructions than a comparison.
 pub fn fall(te: bool, c: Control) -> Control
     ensures { λ r. ⌜ r ≡ fallen te c ⌝ }
 {
     let t = c.timer;
     if te {
-        if 0 < t {
-            return with_timer(c, t - 1, word::either(c.pending, t == 1));
+        match t {
+            0 => c,
+            _ => with_timer(c, t - 1, word::either(c.pending, t == 1)),
         }
+    } else {
+        c
     }
-    c
 }
 
 // ---- the program counter
@@ -446,32 +286,32 @@ pub fn fall(te: bool, c: Control) -> Control
 pub fn go_on(n: u32, c: Control) -> Control
     ensures { λ r. ⌜ r ≡ onward n c ⌝ }
 {
-    with_pc(c, std::num::wrapping_add_u32(c.pc, n))
+    with_pc(c, word::byte_sum(ByteAddr(c.pc), n))
 }
 
 fn go_to(a: u32, c: Control) -> Control
     ensures { λ r. ⌜ r ≡ goTo a c ⌝ }
 {
-    with_pc(c, a / 2 * 2)
+    with_pc(c, word::align(Width::Half, ByteAddr(a)))
 }
 
 fn link(c: Control) -> Control
     ensures { λ r. ⌜ r ≡ linked c ⌝ }
 {
-    with_ra(c, std::num::wrapping_add_u32(c.pc, 4))
+    let after = word::byte_sum(ByteAddr(c.pc), 4);
+    with_ra(c, after.0)
 }
 
 fn jump_by(d: HalfDisp, c: Control) -> Control
     ensures { λ r. ⌜ r ≡ jump d c ⌝ }
 {
-    let to = word::jump_sum(ByteAddr(c.pc), d);
-    with_pc(c, to.0)
+    with_pc(c, word::jump_sum(ByteAddr(c.pc), d))
 }
 
 fn is_wanted(t: bool, c: Control) -> bool
     ensures { λ r. ⌜ r ≡ wants t c ⌝ }
 {
-    if word::is_on(c.psw, 8) { t } else { !t }
+    word::same(word::is_on(c.psw, 8), t)
 }
 
 fn branch_by(t: bool, d: HalfDisp, n: u32, c: Control) -> Control
@@ -487,7 +327,7 @@ fn branch_by(t: bool, d: HalfDisp, n: u32, c: Control) -> Control
 // ---- effects
 
 fn set_reg(d: u32, v: u32, c: Control) -> Effect
-    ensures { λ r. ⌜ r ≡ sets d v c ⌝ }
+    ensures { λ r. ⌜ r ≡ putsReg d v c ⌝ }
 {
     Effect {
         control: go_on(2, c),
@@ -502,7 +342,7 @@ fn move_to(c: Control) -> Effect
 {
     Effect {
         control: c,
-        reg: 16,
+        reg: NO_REG,
         value: 0,
         wrote: false,
     }
@@ -510,7 +350,7 @@ fn move_to(c: Control) -> Effect
 
 // A sum or difference, with CY.
 fn set_sum(d: u32, s: word::Sum, c: Control) -> Effect
-    ensures { λ r. ⌜ r ≡ sets d (s .value) (withCy c (s .carry)) ⌝ }
+    ensures { λ r. ⌜ r ≡ putsReg d (s .value) (withCy c (s .carry)) ⌝ }
 {
     set_reg(d, s.value, with_psw(c, word::with_bit(c.psw, 9, s.carry)))
 }
@@ -581,7 +421,7 @@ pub fn compare_imm(op: CmpImmOp, n: u32, x: u32, c: Control) -> Effect
 
 // A register that takes a value if TF says what is wanted, and else keeps its own.
 fn set_if(t: bool, d: u32, v: u32, x: u32, c: Control) -> Effect
-    ensures { λ r. ⌜ r ≡ sets d (cond (wants t c) v x) c ⌝ }
+    ensures { λ r. ⌜ r ≡ putsReg d (cond (wants t c) v x) c ⌝ }
 {
     if is_wanted(t, c) {
         set_reg(d, v, c)
@@ -677,20 +517,16 @@ fn keep_psw(p: u32, v: u32) -> u32
 fn write_sfr(n: u32, v: u32, c: Control) -> Control
     ensures { λ r. ⌜ r ≡ written n v c ⌝ }
 {
-    match n {
-        0 => with_psw(c, keep_psw(c.psw, v)),
-        1 => with_ra(c, v),
-        2 => with_ipc(c, v),
-        3 => write_timer(v, c),
-        4 => with_ibase(c, v),
-        5 => with_usreg(c, v),
-        6 => with_hwdbg(c, word::with_field(c.hwdbg, 2, 4, word::field(v, 2, 4))),
-        7 => with_bp0(c, v),
-        8 => with_bp1(c, v),
-        9 => with_wp0(c, v),
-        10 => with_wp1(c, v),
-        _ => c,
+    if n == 0 {
+        return with_psw(c, keep_psw(c.psw, v));
     }
+    if n == 3 {
+        return write_timer(v, c);
+    }
+    if n == 6 {
+        return with_hwdbg(c, word::with_field(c.hwdbg, 2, 4, word::field(v, 2, 4)));
+    }
+    with_sfr(n, c, v)
 }
 
 pub fn mtsfr(n: u32, y: u32, c: Control) -> Effect
@@ -698,7 +534,7 @@ pub fn mtsfr(n: u32, y: u32, c: Control) -> Effect
 {
     Effect {
         control: go_on(2, write_sfr(n, y, c)),
-        reg: 16,
+        reg: NO_REG,
         value: 0,
         wrote: word::both(n == 3, is_accepted(c)),
     }
@@ -735,7 +571,7 @@ pub fn jsfr(n: u32, c: Control) -> Effect
 pub fn swint(n: u32, c: Control) -> Effect
     ensures { λ r. ⌜ r ≡ exec (Instr.Swint n) 0 0 0 c ⌝ }
 {
-    move_to(enter_swint(n, go_on(2, c)))
+    move_to(go_on(2, c))
 }
 
 pub fn short_jump(op: ShortOp, d: HalfDisp, c: Control) -> Effect
@@ -761,35 +597,35 @@ pub fn long_jump(op: LongOp, d: HalfDisp, c: Control) -> Effect
 
 // ---- operands and addresses
 
-pub fn operands_of(i: Instr) -> Operands
-    ensures { λ r. ⌜ r ≡ operandsOf i ⌝ }
+pub fn sources_of(i: Instr) -> Sources
+    ensures { λ r. ⌜ r ≡ sourcesOf i ⌝ }
 {
     match i {
         Instr::Alu(_, d, b) => two_of(d, b),
-        Instr::ShiftImm(_, d, _) => two_of(d, 0),
+        Instr::ShiftImm(_, d, _) => two_of(d, UNREAD),
         Instr::Cmp(_, d, b) => two_of(d, b),
-        Instr::CmpImm(_, d, _) => two_of(d, 0),
+        Instr::CmpImm(_, d, _) => two_of(d, UNREAD),
         Instr::Cond(_, _, d, b) => two_of(d, b),
-        Instr::CondImm(_, d, _) => two_of(d, 0),
-        Instr::Ldrpc(_, _) => two_of(0, 0),
-        Instr::Imm(_, d, _) => two_of(d, 0),
-        Instr::Load(_, _, _, b) => two_of(0, b),
+        Instr::CondImm(_, d, _) => two_of(d, UNREAD),
+        Instr::Ldrpc(_, _) => two_of(UNREAD, UNREAD),
+        Instr::Imm(_, d, _) => two_of(d, UNREAD),
+        Instr::Load(_, _, _, b) => two_of(UNREAD, b),
         Instr::Store(_, d, _, b) => two_of(d, b),
-        Instr::Mfsfr(_, _) => two_of(0, 0),
-        Instr::Mtsfr(_, b) => two_of(0, b),
-        Instr::Jr(b) => two_of(0, b),
-        Instr::Jrl(b) => two_of(0, b),
-        Instr::Jsfr(_) => two_of(0, 0),
-        Instr::Swint(_) => two_of(0, 0),
-        Instr::ShortJump(_, _) => two_of(0, 0),
-        Instr::LongJump(_, _) => two_of(0, 0),
+        Instr::Mfsfr(_, _) => two_of(UNREAD, UNREAD),
+        Instr::Mtsfr(_, b) => two_of(UNREAD, b),
+        Instr::Jr(b) => two_of(UNREAD, b),
+        Instr::Jrl(b) => two_of(UNREAD, b),
+        Instr::Jsfr(_) => two_of(UNREAD, UNREAD),
+        Instr::Swint(_) => two_of(UNREAD, UNREAD),
+        Instr::ShortJump(_, _) => two_of(UNREAD, UNREAD),
+        Instr::LongJump(_, _) => two_of(UNREAD, UNREAD),
     }
 }
 
-fn two_of(first: u32, second: u32) -> Operands
+fn two_of(first: u32, second: u32) -> Sources
     ensures { λ r. ⌜ r ≡ two first second ⌝ }
 {
-    Operands { first, second }
+    Sources { first, second }
 }
 
 pub fn data_address(w: Width, base: u32, n: u32) -> ByteAddr

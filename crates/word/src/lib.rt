@@ -56,7 +56,7 @@ pub fn at_most(n: usize, limit: usize) -> usize
 // ---- bits and fields
 
 pub fn number(b: bool) -> u32
-    ensures { λ r. ⌜ r ≡ num b ⌝ }
+    ensures { λ r. ⌜ (r ≡ num b) × (r ≤ 1) ⌝ }
 {
     if b { 1 } else { 0 }
 }
@@ -230,10 +230,27 @@ pub fn align(w: Width, at: ByteAddr) -> ByteAddr
 
 // ---- memory
 
+pub fn bytes(w: Width) -> u32
+    ensures { λ r. ⌜ (r ≡ bytesOf w) × (r ≤ 4) ⌝ }
+{
+    match w {
+        Width::Byte => 1,
+        Width::Half => 2,
+        Width::Word => 4,
+    }
+}
+
+pub fn is_inside(w: Width, m: &[u8], at: ByteAddr) -> bool
+    ensures { λ r. ⌜ r ≡ inside (now (m .entry)) at (bytesOf w) ⌝ }
+{
+    let end = at.0 as usize + bytes(w) as usize;
+    end <= m.len()
+}
+
 // The number of the n bytes from `at` on.
 fn load_bytes(m: &[u8], at: u32, n: u32) -> u32
     requires { ⌜ n ≤ 4 ⌝ }
-    ensures { λ r. ⌜ r ≡ cond (inside (now (m .entry)) at n) (load n (now (m .entry)) at) 0 ⌝ }
+    ensures { λ r. ⌜ r ≡ cond (inside (now (m .entry)) (record { 0 = at }) n) (load n (now (m .entry)) at) 0 ⌝ }
 {
     let a = at as usize;
     let k = n as usize;
@@ -251,7 +268,7 @@ fn load_bytes(m: &[u8], at: u32, n: u32) -> u32
 
 fn store_bytes(m: &mut [u8], at: u32, n: u32, v: u32)
     requires { ⌜ n ≤ 4 ⌝ }
-    ensures { λ _. ⌜ now (m .exit) ≡ cond (inside (now (m .entry)) at n) (store n (now (m .entry)) at v) (now (m .entry)) ⌝ }
+    ensures { λ _. ⌜ now (m .exit) ≡ cond (inside (now (m .entry)) (record { 0 = at }) n) (store n (now (m .entry)) at v) (now (m .entry)) ⌝ }
 {
     let a = at as usize;
     let k = n as usize;
@@ -269,7 +286,7 @@ fn store_bytes(m: &mut [u8], at: u32, n: u32, v: u32)
 
 fn fill_bytes(m: &mut [u8], at: u32, n: u32, b: u8)
     requires { ⌜ n ≤ 4 ⌝ }
-    ensures { λ _. ⌜ now (m .exit) ≡ cond (inside (now (m .entry)) at n) (fill n (now (m .entry)) at b) (now (m .entry)) ⌝ }
+    ensures { λ _. ⌜ now (m .exit) ≡ cond (inside (now (m .entry)) (record { 0 = at }) n) (fill n (now (m .entry)) at b) (now (m .entry)) ⌝ }
 {
     let a = at as usize;
     let k = n as usize;
@@ -285,7 +302,7 @@ fn fill_bytes(m: &mut [u8], at: u32, n: u32, b: u8)
 
 fn any_bytes(m: &[u8], at: u32, n: u32) -> bool
     requires { ⌜ n ≤ 4 ⌝ }
-    ensures { λ r. ⌜ r ≡ cond (inside (now (m .entry)) at n) (any n (now (m .entry)) at) false ⌝ }
+    ensures { λ r. ⌜ r ≡ cond (inside (now (m .entry)) (record { 0 = at }) n) (any n (now (m .entry)) at) false ⌝ }
 {
     let a = at as usize;
     let k = n as usize;
@@ -302,7 +319,7 @@ fn any_bytes(m: &[u8], at: u32, n: u32) -> bool
 }
 
 pub fn load(w: Width, m: &[u8], at: ByteAddr) -> u32
-    ensures { λ r. ⌜ r ≡ loadOf w (now (m .entry)) (at .0) ⌝ }
+    ensures { λ r. ⌜ r ≡ loadOf w (now (m .entry)) at ⌝ }
 {
     let a = at.0;
     match w {
@@ -313,7 +330,7 @@ pub fn load(w: Width, m: &[u8], at: ByteAddr) -> u32
 }
 
 pub fn store(w: Width, m: &mut [u8], at: ByteAddr, v: u32)
-    ensures { λ _. ⌜ now (m .exit) ≡ storeOf w (now (m .entry)) (at .0) v ⌝ }
+    ensures { λ _. ⌜ now (m .exit) ≡ storeOf w (now (m .entry)) at v ⌝ }
 {
     let a = at.0;
     match w {
@@ -325,7 +342,7 @@ pub fn store(w: Width, m: &mut [u8], at: ByteAddr, v: u32)
 
 // The same over marks: every byte of the access made b.
 pub fn fill(w: Width, m: &mut [u8], at: ByteAddr, b: u8)
-    ensures { λ _. ⌜ now (m .exit) ≡ fillOf w (now (m .entry)) (at .0) b ⌝ }
+    ensures { λ _. ⌜ now (m .exit) ≡ fillOf w (now (m .entry)) at b ⌝ }
 {
     let a = at.0;
     match w {
@@ -337,7 +354,7 @@ pub fn fill(w: Width, m: &mut [u8], at: ByteAddr, b: u8)
 
 // A byte of the access that is not 0.
 pub fn has_any(w: Width, m: &[u8], at: ByteAddr) -> bool
-    ensures { λ r. ⌜ r ≡ anyOf w (now (m .entry)) (at .0) ⌝ }
+    ensures { λ r. ⌜ r ≡ anyOf w (now (m .entry)) at ⌝ }
 {
     let a = at.0;
     match w {
@@ -347,16 +364,15 @@ pub fn has_any(w: Width, m: &[u8], at: ByteAddr) -> bool
     }
 }
 
-// A byte above a limit.
+// A byte above a limit. All are looked at, so that the compiler takes many at once.
 pub fn has_above(limit: u8, k: &[u8]) -> bool
     ensures { λ r. ⌜ r ≡ anyAbove limit (now (k .entry)) ⌝ }
 {
+    let mut found = false;
     let mut i: usize = 0;
     while i < k.len() {
-        if limit < k[i] {
-            return true;
-        }
+        found = either(found, limit < k[i]);
         i += 1;
     }
-    false
+    found
 }

@@ -1,7 +1,16 @@
+use borrow.Author.Tests.{lt-ltb, le-ltb, le-leb, lt-leb, eq-eqb, ne-eqb}
 use Rattle.cpu.specs.Entries.{enter}
 use borrow.Author.Needs.{needs}
 use Rattle.cpu.proofs.enter_at.Statement.{statement}
 use Rattle.cpu.proofs.enter_at.Tie as tie
+use Rattle.cpu.proofs.enter_at.Reads as reads
+use Rattle.cpu.proofs.enter_at.Lts as lts
+use Rattle.cpu.proofs.vector_at.Reads as vector-at-reads
+use Rattle.cpu.proofs.with_ipc.Reads as with-ipc-reads
+use Rattle.cpu.proofs.with_pc.Reads as with-pc-reads
+use Rattle.cpu.proofs.with_psw.Reads as with-psw-reads
+use Rattle.word.proofs.is_on.Reads as is-on-reads
+use Rattle.word.proofs.with_bit.Reads as with-bit-reads
 
 is-on-requires : tie.Need-is-on-requires
 is-on-requires c κs = search needs
@@ -18,15 +27,15 @@ with-psw-requires c κs = search needs
 with-ipc-requires : tie.Need-with-ipc-requires
 with-ipc-requires c κs = search needs
 
-with-field-requires : tie.Need-with-field-requires
-with-field-requires c κs = search needs
+vector-at-requires : tie.Need-vector-at-requires
+vector-at-requires c κs = search needs
 
 with-pc-requires : tie.Need-with-pc-requires
 with-pc-requires c κs = search needs
 
 returns : tie.Need-returns
 unfolding enter
-returns c = rw (c .with-pc .ensures, c .before .with-field .ensures, c .before .before .with-ipc .ensures, c .before .before .before .with-psw .ensures, c .before .before .before .before .with-bit2 .ensures, c .before .before .before .before .before .with-bit .ensures, c .before .before .before .before .before .before .is-on .ensures)
+returns c = rw (c .with-pc .ensures, c .before .vector-at .ensures, c .before .before .with-ipc .ensures, c .before .before .before .with-psw .ensures, c .before .before .before .before .with-bit2 .ensures, c .before .before .before .before .before .with-bit .ensures, c .before .before .before .before .before .before .is-on .ensures)
 
 pub enter-at-spec : {M : Type 1} → statement M
 enter-at-spec =
@@ -37,6 +46,6 @@ enter-at-spec =
     with-bit-requires-2
     with-psw-requires
     with-ipc-requires
-    with-field-requires
+    vector-at-requires
     with-pc-requires
     returns)

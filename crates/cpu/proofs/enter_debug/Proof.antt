@@ -1,4 +1,4 @@
-use Rattle.cpu.specs.Entries.{debugEntry}
+use Rattle.cpu.specs.Entries.{entered}
 use borrow.Author.Needs.{needs}
 use Rattle.cpu.proofs.enter_debug.Statement.{statement}
 use Rattle.cpu.proofs.enter_debug.Tie as tie
@@ -22,7 +22,7 @@ enter-at-requires : tie.Need-enter-at-requires
 enter-at-requires c κs = search needs
 
 returns : tie.Need-returns
-unfolding debugEntry
+unfolding entered
 returns c = rw (c .enter-at .ensures, c .before .with-hwdbg .ensures, c .before .before .with-field2 .ensures, c .before .before .before .with-psw .ensures, c .before .before .before .before .with-bit .ensures, c .before .before .before .before .before .with-field .ensures)
 
 pub enter-debug-spec : {M : Type 1} → statement M

@@ -1,4 +1,4 @@
-use Rattle.cpu.specs.Entries.{externalEntry}
+use Rattle.cpu.specs.Entries.{entered}
 use borrow.Author.Needs.{needs}
 use Rattle.cpu.proofs.enter_external.Statement.{statement}
 use Rattle.cpu.proofs.enter_external.Tie as tie
@@ -19,7 +19,7 @@ enter-at-requires : tie.Need-enter-at-requires
 enter-at-requires c κs = search needs
 
 returns : tie.Need-returns
-unfolding externalEntry
+unfolding entered
 returns c = rw (c .enter-at .ensures, c .before .with-psw .ensures, c .before .before .with-bit .ensures, c .before .before .before .with-field .ensures, c .before .before .before .before .lsl .ensures)
 
 pub enter-external-spec : {M : Type 1} → statement M

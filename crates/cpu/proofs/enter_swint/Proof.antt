@@ -1,4 +1,4 @@
-use Rattle.cpu.specs.Entries.{swintEntry}
+use Rattle.cpu.specs.Entries.{entered}
 use borrow.Author.Needs.{needs}
 use Rattle.cpu.proofs.enter_swint.Statement.{statement}
 use Rattle.cpu.proofs.enter_swint.Tie as tie
@@ -16,7 +16,7 @@ enter-at-requires : tie.Need-enter-at-requires
 enter-at-requires c κs = search needs
 
 returns : tie.Need-returns
-unfolding swintEntry
+unfolding entered
 returns c = rw (c .enter-at .ensures, c .before .with-psw .ensures, c .before .before .with-bit .ensures, c .before .before .before .with-field .ensures)
 
 pub enter-swint-spec : {M : Type 1} → statement M

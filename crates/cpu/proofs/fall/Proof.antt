@@ -1,8 +1,13 @@
-use borrow.Author.Tests.{lt-ltb, le-ltb}
+use borrow.Author.Tests.{lt-ltb, le-ltb, le-leb, lt-leb, eq-eqb, ne-eqb}
 use Rattle.cpu.specs.Entries.{fallen}
+use Rattle.isa.proofs.Rows.{rest-past}
 use borrow.Author.Needs.{needs}
 use Rattle.cpu.proofs.fall.Statement.{statement}
 use Rattle.cpu.proofs.fall.Tie as tie
+use Rattle.cpu.proofs.fall.Reads as reads
+use Rattle.cpu.proofs.fall.Lts as lts
+use Rattle.cpu.proofs.with_timer.Reads as with-timer-reads
+use Rattle.word.proofs.either.Reads as either-reads
 
 sub-with-timer : tie.Need-sub-with-timer
 sub-with-timer c = search needs
@@ -15,11 +20,11 @@ with-timer-requires c κs = search needs
 
 returns : tie.Need-returns
 unfolding fallen
-returns c = rw (c .with-timer .ensures, c .before .either .ensures, lt-ltb _ _ (c .before .before .if2 .taken), c .before .before .before .if1 .taken)
+returns c = rw (c .match .keys1, c .before .if1 .taken)
 
 returns-2 : tie.Need-returns-2
 unfolding fallen
-returns-2 c = rw (le-ltb _ _ (c .if2 .left), c .before .if1 .taken)
+returns-2 c = rw (c .with-timer .ensures, c .before .either .ensures, lt-ltb _ _ (rest-past 1 (c .before .before .before .before .args .c .timer) (c .before .before .match .rest)), c .before .before .before .if1 .taken)
 
 returns-3 : tie.Need-returns-3
 unfolding fallen

@@ -1,17 +1,22 @@
+use borrow.Author.Tests.{lt-ltb, le-ltb, le-leb, lt-leb, eq-eqb, ne-eqb}
 use Rattle.cpu.specs.Exec.{goTo}
 use borrow.Author.Needs.{needs}
 use Rattle.cpu.proofs.go_to.Statement.{statement}
 use Rattle.cpu.proofs.go_to.Tie as tie
+use Rattle.cpu.proofs.go_to.Reads as reads
+use Rattle.cpu.proofs.go_to.Lts as lts
+use Rattle.cpu.proofs.with_pc.Reads as with-pc-reads
+use Rattle.word.proofs.align.Reads as align-reads
 
-mul-with-pc : tie.Need-mul-with-pc
-mul-with-pc c = search needs
+align-requires : tie.Need-align-requires
+align-requires c κs = search needs
 
 with-pc-requires : tie.Need-with-pc-requires
 with-pc-requires c κs = search needs
 
 returns : tie.Need-returns
 unfolding goTo
-returns c = rw (c .with-pc .ensures)
+returns c = rw (c .with-pc .ensures, c .before .align .ensures)
 
 pub go-to-spec : {M : Type 1} → statement M
-go-to-spec = tie.close (tie.spec mul-with-pc with-pc-requires returns)
+go-to-spec = tie.close (tie.spec align-requires with-pc-requires returns)

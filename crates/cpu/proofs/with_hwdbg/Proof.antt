@@ -1,10 +1,10 @@
 use mathlib.Core.Path.{refl}
-use Rattle.cpu.specs.Control.{withHwdbg}
+use Rattle.cpu.specs.Control.{withSfr}
 use Rattle.cpu.proofs.with_hwdbg.Statement.{statement}
 use Rattle.cpu.proofs.with_hwdbg.Tie as tie
 
 returns : tie.Need-returns
-unfolding withHwdbg
+unfolding withSfr
 returns c = refl
 
 pub with-hwdbg-spec : {M : Type 1} → statement M

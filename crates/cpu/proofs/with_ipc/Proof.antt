@@ -1,10 +1,10 @@
 use mathlib.Core.Path.{refl}
-use Rattle.cpu.specs.Control.{withIpc}
+use Rattle.cpu.specs.Control.{withSfr}
 use Rattle.cpu.proofs.with_ipc.Statement.{statement}
 use Rattle.cpu.proofs.with_ipc.Tie as tie
 
 returns : tie.Need-returns
-unfolding withIpc
+unfolding withSfr
 returns c = refl
 
 pub with-ipc-spec : {M : Type 1} → statement M

@@ -1,10 +1,10 @@
 use mathlib.Core.Path.{refl}
-use Rattle.cpu.specs.Control.{withPsw}
+use Rattle.cpu.specs.Control.{withSfr}
 use Rattle.cpu.proofs.with_psw.Statement.{statement}
 use Rattle.cpu.proofs.with_psw.Tie as tie
 
 returns : tie.Need-returns
-unfolding withPsw
+unfolding withSfr
 returns c = refl
 
 pub with-psw-spec : {M : Type 1} → statement M

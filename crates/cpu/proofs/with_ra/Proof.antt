@@ -1,10 +1,10 @@
 use mathlib.Core.Path.{refl}
-use Rattle.cpu.specs.Control.{withRa}
+use Rattle.cpu.specs.Control.{withSfr}
 use Rattle.cpu.proofs.with_ra.Statement.{statement}
 use Rattle.cpu.proofs.with_ra.Tie as tie
 
 returns : tie.Need-returns
-unfolding withRa
+unfolding withSfr
 returns c = refl
 
 pub with-ra-spec : {M : Type 1} → statement M

@@ -1,10 +1,10 @@
 use mathlib.Core.Path.{refl}
-use Rattle.cpu.specs.Control.{withTimer}
+use Rattle.cpu.specs.Control.{withSfr, withPending}
 use Rattle.cpu.proofs.with_timer.Statement.{statement}
 use Rattle.cpu.proofs.with_timer.Tie as tie
 
 returns : tie.Need-returns
-unfolding withTimer
+unfolding withSfr withPending
 returns c = refl
 
 pub with-timer-spec : {M : Type 1} → statement M

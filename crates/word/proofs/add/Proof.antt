@@ -22,7 +22,7 @@ add-total-2 : tie.Need-add-total-2
 add-total-2 c = search needs
 
 returns : tie.Need-returns
-returns c = rw (c .wrapping-add-u322 .ensures, c .before .wrapping-add-u32 .ensures, ← (c .before .before .number .ensures), mod-add-mod)
+returns c = rw (c .wrapping-add-u322 .ensures, c .before .wrapping-add-u32 .ensures, ← (c .before .before .number .ensures .0), mod-add-mod)
 
 pub add-spec : {M : Type 1} → statement M
 add-spec =

@@ -22,10 +22,10 @@ add-taken c = search needs
 
 returns : tie.Need-returns
 returns c =
-    let small = subst (λ (n : ℕ). n < 2) (sym (c .before .before .number .ensures)) (num-lt (c .before .before .before .args .c)) in
+    let small = subst (λ (n : ℕ). n < 2) (sym (c .before .before .number .ensures .0)) (num-lt (c .before .before .before .args .c)) in
     let d = difference _ _ _ _ _ (c .before .before .before .fits .y .fits) small (c .before .wrapping-sub-u32 .ok) (c .wrapping-sub-u322 .ok)
     (c .before .wrapping-sub-u32 .ensures) (c .wrapping-sub-u322 .ensures) in
-    rw (← (c .before .before .number .ensures), ← d)
+    rw (← (c .before .before .number .ensures .0), ← d)
 
 pub sub-spec : {M : Type 1} → statement M
 sub-spec =

@@ -9,7 +9,7 @@ with-field-requires : tie.Need-with-field-requires
 with-field-requires c κs = search needs
 
 returns : tie.Need-returns
-returns c = rw (c .with-field .ensures, c .before .number .ensures)
+returns c = rw (c .with-field .ensures, c .before .number .ensures .0)
 
 pub with-bit-spec : {M : Type 1} → statement M
 with-bit-spec = tie.close (tie.spec number-requires with-field-requires returns)

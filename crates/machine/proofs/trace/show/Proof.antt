@@ -1,0 +1,34 @@
+use borrow.Author.Tests.{lt-ltb, le-ltb, le-leb, lt-leb, eq-eqb, ne-eqb}
+use Rattle.machine.specs.Step.{stepOf}
+use borrow.Author.Needs.{needs}
+use Rattle.machine.proofs.trace.show.Statement.{statement}
+use Rattle.machine.proofs.trace.show.Tie as tie
+use Rattle.machine.proofs.trace.show.Reads as reads
+use Rattle.machine.proofs.trace.show.Lts as lts
+use Rattle.machine.proofs.choice.choose.Reads as choose-reads
+use Rattle.machine.proofs.trace.show_fetch.Reads as show-fetch-reads
+
+choose-requires : tie.Need-choose-requires
+choose-requires c κs = search needs
+
+enum-known-e : tie.Need-enum-known-e
+enum-known-e c = search needs
+
+enum-told : tie.Need-enum-told
+enum-told c = search needs
+
+show-fetch-requires : tie.Need-show-fetch-requires
+show-fetch-requires c κs = search needs
+
+returns : tie.Need-returns
+unfolding stepOf
+returns c = rw (← (c .before .before .before .choose .ensures), c .before .e .given .1)
+
+returns-2 : tie.Need-returns-2
+unfolding stepOf
+returns-2 c = rw (c .show-fetch .ensures, ← (c .before .before .before .choose .ensures), c .before .enum-told .given .1)
+
+pub show-spec : {M : Type 1} → statement M
+show-spec =
+    tie.close
+    (tie.spec choose-requires enum-known-e enum-told show-fetch-requires returns returns-2)
