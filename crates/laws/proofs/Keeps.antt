@@ -1,72 +1,63 @@
 -- Every step keeps a state in form; the program counter never becomes odd.
 -- Assumes nothing.
 use Prim.Native.Nat.{ℕ, zero, suc, _+_, _*_, _-_, _/_, _%_, _^_, _<_, _≤_}
-use mathlib.Core.Path.{_≡_, refl, sym, ap, subst, _∙_}
+use mathlib.Core.Path.{_≡_, refl, ap, _∙_}
 use mathlib.Core.Bool.{Bool, true, false, cond, not, _&&_, _||_}
-use mathlib.Core.List.{List, [], _∷_}
+use mathlib.Core.List.{List}
 use native.Mathlib.Omega.{arith}
 use native.Mathlib.Nat.{mod-mod}
 use lib.Dec.{ltb, eqb, lit≤, lit<}
 use lib.ListN.{getD}
 use borrow.Author.Tests.{ltb-true, ltb-false, eqb-true}
-use Rattle.word.specs.Bits.{num, on, fieldOf, put, withBit}
-use Rattle.word.specs.Numbers.{wrap, lslOf, carryOf, borrowOf}
+use Rattle.word.specs.Bits.{num, on, fieldOf, put, withField, withBit}
+use Rattle.word.specs.Numbers.{lslOf, carryOf, borrowOf}
+use Rattle.word.specs.Addresses.{jumpSum, byteSum}
+use Rattle.word.specs.declared.ByteAddr.{ByteAddr}
 use Rattle.word.specs.declared.HalfDisp.{HalfDisp}
 use Rattle.word.proofs.Fields.{kept-above, kept-below, read-back, put-lt}
 use Rattle.isa.specs.declared.AluOp.{AluOp}
 use Rattle.isa.specs.declared.ShortOp.{ShortOp}
 use Rattle.isa.specs.declared.LongOp.{LongOp}
 use Rattle.isa.specs.declared.Instr.{Instr}
-use Rattle.cpu.specs.Control.{withPc, withPsw, withRa, withIpc, withTimer, withIbase, withUsreg, withHwdbg, withBp0, withBp1, withWp0, withWp1, withPending, withTf, tf, cy, sfrOf}
-use Rattle.cpu.specs.Entries.{enter, swintEntry, timerEntry, externalEntry, debugEntry, watchHit, watched, fallen}
-use Rattle.cpu.specs.Exec.{onward, goTo, linked, jump, wants, branch, shortJump, longJump, carried, cmpOf, cmpImmOf, accepted, timerWritten, pswWritten, writtenRow, written, leave, exec}
+use Rattle.cpu.specs.Control.{pcOf, withPc, withSfr, withPsw, withRa, withIpc, withHwdbg, withPending, withTimer, withTf, tf, cy, sfrOf}
+use Rattle.cpu.specs.Entries.{vector, enter, entered, fallen}
+use Rattle.cpu.specs.Exec.{onward, goTo, linked, jump, wants, branch, shortJump, longJump, carried, cmpOf, cmpImmOf, accepted, timerWritten, pswWritten, written, leave, exec, sourcesOf}
 use Rattle.cpu.specs.declared.Control.{Control}
-use Rattle.cpu.specs.Exec.{operandsOf, reachOf}
 use Rattle.cpu.specs.declared.Effect.{Effect}
-use Rattle.cpu.specs.declared.Reach.{Reach}
-use Rattle.marks.specs.Marks.{taint}
+use Rattle.cpu.specs.declared.Entry.{Entry}
+use Rattle.marks.specs.Marks.{taint, blocked}
 use Rattle.marks.specs.declared.Flags.{Flags}
 use Rattle.marks.specs.declared.Taint.{Taint}
-use Rattle.machine.specs.Form.{Form}
+use Rattle.instruction.specs.Fetch.{fetchOf}
+use Rattle.instruction.specs.Act.{Val, reachOf, outside, loadedFrom, loadedMark, actOf}
+use Rattle.instruction.specs.declared.Reply.{Reply}
+use Rattle.instruction.specs.declared.Fetched.{Fetched}
+use Rattle.instruction.specs.declared.Reach.{Reach}
+use Rattle.instruction.specs.declared.Act.{Act}
 use Rattle.machine.specs.State.{valueAt}
-use Rattle.machine.specs.Fetch.{fetchOf}
-use Rattle.machine.specs.Step.{chosen, outside, watchedBy, loadedFrom, loadedMark, operandMarked, actOf, doneOf, actOut, instrStep, fetchStep, eventStep, stepOf, after}
+use Rattle.machine.specs.Step.{Stepped, stopped, completed, chosen, entryBy, entryDone, doneOf, actStep, instrStep, fetchStep, eventStep, stepOf, after}
 use Rattle.machine.specs.Run.{Final, goOn, stepsOf, judge, judged, runOf}
 use Rattle.machine.specs.declared.State.{State}
-use Rattle.machine.specs.declared.Val.{Val}
-use Rattle.machine.specs.declared.Reply.{Reply}
 use Rattle.machine.specs.declared.Event.{Event}
-use Rattle.machine.specs.declared.Fetched.{Fetched}
-use Rattle.machine.specs.declared.Act.{Act}
-use Rattle.machine.specs.declared.Out.{Out}
 use Rattle.machine.specs.declared.Judged.{Judged}
-
--- parts that Form does not look at
-same : (a b : Control) → a .pc ≡ b .pc → a .psw ≡ b .psw → a .hwdbg ≡ b .hwdbg → a .timer ≡ b .timer → a .pending ≡ b .pending → Form a → Form b
-same a b p q h t g f =
-    record {
-      even = subst (λ (n : ℕ). n % 2 ≡ 0) p (f .even);
-      twelve = subst (λ (n : ℕ). on n 12 ≡ false) q (f .twelve);
-      fixed = subst (λ (n : ℕ). fieldOf n 0 2 ≡ 3) h (f .fixed);
-      high = subst (λ (n : ℕ). n < 2 ^ 9) h (f .high);
-      late = λ e. sym t ∙ f .late (g ∙ e);
-    }
+use Rattle.laws.specs.Form.{Form}
 
 module _ (c : Control) (f : Form c) where
-  pc : (x : ℕ) → x % 2 ≡ 0 → Form (withPc c x)
+  -- one place
+  pc : (a : ByteAddr) → a .0 % 2 ≡ 0 → Form (withPc c a)
   unfolding withPc
-  pc x e = record { even = e; twelve = f .twelve; fixed = f .fixed; high = f .high; late = f .late }
+  pc a e = record { even = e; twelve = f .twelve; fixed = f .fixed; high = f .high; late = f .late }
 
   psw : (x : ℕ) → on x 12 ≡ false → Form (withPsw c x)
-  unfolding withPsw
+  unfolding withSfr
   psw x e = record { even = f .even; twelve = e; fixed = f .fixed; high = f .high; late = f .late }
 
   hwdbg : (x : ℕ) → fieldOf x 0 2 ≡ 3 → x < 2 ^ 9 → Form (withHwdbg c x)
-  unfolding withHwdbg
+  unfolding withSfr
   hwdbg x e l = record { even = f .even; twelve = f .twelve; fixed = e; high = l; late = f .late }
 
   timer : (x : ℕ) (b : Bool) → (b ≡ true → x ≡ 0) → Form (withTimer c x b)
-  unfolding withTimer
+  unfolding withSfr withPending
   timer x b e = record { even = f .even; twelve = f .twelve; fixed = f .fixed; high = f .high; late = e }
 
   pending : Form (withPending c false)
@@ -80,37 +71,17 @@ module _ (c : Control) (f : Form c) where
         late = λ (e : false ≡ true). let z : _≡_ {A = ℕ} 0 1 = cc in absurd (omega arith);
       }
 
-  ra : (x : ℕ) → Form (withRa c x)
-  unfolding withRa
-  ra x = same c (withRa c x) refl refl refl refl refl f
-
-  ipc : (x : ℕ) → Form (withIpc c x)
-  unfolding withIpc
-  ipc x = same c (withIpc c x) refl refl refl refl refl f
-
-  ibase : (x : ℕ) → Form (withIbase c x)
-  unfolding withIbase
-  ibase x = same c (withIbase c x) refl refl refl refl refl f
-
-  usreg : (x : ℕ) → Form (withUsreg c x)
-  unfolding withUsreg
-  usreg x = same c (withUsreg c x) refl refl refl refl refl f
-
-  bp0 : (x : ℕ) → Form (withBp0 c x)
-  unfolding withBp0
-  bp0 x = same c (withBp0 c x) refl refl refl refl refl f
-
-  bp1 : (x : ℕ) → Form (withBp1 c x)
-  unfolding withBp1
-  bp1 x = same c (withBp1 c x) refl refl refl refl refl f
-
-  wp0 : (x : ℕ) → Form (withWp0 c x)
-  unfolding withWp0
-  wp0 x = same c (withWp0 c x) refl refl refl refl refl f
-
-  wp1 : (x : ℕ) → Form (withWp1 c x)
-  unfolding withWp1
-  wp1 x = same c (withWp1 c x) refl refl refl refl refl f
+  -- an SFR that Form does not look at
+  other : (n x : ℕ) → eqb n 0 ≡ false → eqb n 3 ≡ false → eqb n 6 ≡ false → Form (withSfr n c x)
+  unfolding withSfr
+  other n x p t h =
+      record {
+        even = f .even;
+        twelve = rw p (f .twelve);
+        fixed = rw h (f .fixed);
+        high = rw h (f .high);
+        late = λ e. rw t (f .late e);
+      }
 
 -- a field of PSW that ends below bit 12, or starts above it
 under : (p i w v : ℕ) → i + w ≤ 12 → on p 12 ≡ false → on (put p i w v) 12 ≡ false
@@ -124,8 +95,8 @@ opened : (p v : ℕ) → v % 2 ≡ 0 → v < 256 → put p 0 8 v % 2 ≡ 0
 unfolding put
 opened p v e l = omega arith
 
--- a field of HWDBG within bits 2 to 8
 module _ (c : Control) (f : Form c) where
+  -- a field of HWDBG within bits 2 to 8
   debug-bits : (i w v : ℕ) → 2 ≤ i → i + w ≤ 9 → Form (withHwdbg c (put (c .hwdbg) i w v))
   debug-bits i w v a b =
       hwdbg c f _ (kept-below (c .hwdbg) i w v 0 2 a ∙ f .fixed) (put-lt 9 (c .hwdbg) i w v b (f .high))
@@ -133,28 +104,28 @@ module _ (c : Control) (f : Form c) where
   bit : (i : ℕ) (b : Bool) → i + 1 ≤ 12 → Form (withPsw c (put (c .psw) i 1 (num b)))
   bit i b h = psw c f _ (under (c .psw) i 1 (num b) h (f .twelve))
 
-  entered : (low : ℕ) → low % 2 ≡ 0 → low < 256 → Form (enter low c)
+  enters : (low : ℕ) → low % 2 ≡ 0 → low < 256 → Form (enter low c)
   unfolding enter
-  entered low e l = pc _ (ipc _ saved (c .pc)) _ (opened (c .ibase) low e l)
+  enters low e l = pc _ (other _ saved 2 (c .pc) refl refl refl) (vector low c) (opened (c .ibase) low e l)
     where
       saved : Form (withPsw c (withBit (withBit (c .psw) 6 (on (c .psw) 3)) 3 true))
       saved = psw c f _ (under (put (c .psw) 6 1 (num (on (c .psw) 3))) 3 1 1 (lit≤ tt) (under (c .psw) 6 1 (num (on (c .psw) 3)) (lit≤ tt) (f .twelve)))
 
   onwards : (n : ℕ) → n % 2 ≡ 0 → Form (onward n c)
   unfolding onward
-  onwards n e = pc c f (wrap (c .pc + n)) (let g = f .even in omega arith)
+  onwards n e = pc c f (byteSum (pcOf c) n) (let g = f .even in omega arith)
 
   goes : (a : ℕ) → Form (goTo a c)
   unfolding goTo
-  goes a = pc c f (a / 2 * 2) (omega arith)
+  goes a = pc c f _ (omega arith)
 
   links : Form (linked c)
   unfolding linked
-  links = ra c f (wrap (c .pc + 4))
+  links = other c f 1 (byteSum (pcOf c) 4 .0) refl refl refl
 
   jumps : (d : HalfDisp) → Form (jump d c)
   unfolding jump
-  jumps d = pc c f (wrap (c .pc + 2 * d .0)) (let g = f .even in omega arith)
+  jumps d = pc c f (jumpSum (pcOf c) d) (let g = f .even in omega arith)
 
   falls : (te : Bool) → Form (fallen te c)
   unfolding fallen
@@ -169,50 +140,24 @@ module _ (c : Control) (f : Form c) where
       go true false e = timer c f _ _ (λ _. let q = ltb-false 0 (c .timer) e in omega arith)
       go false u e = f
 
-swints : (c : Control) → Form c → (n : ℕ) → Form (swintEntry n c)
-unfolding swintEntry
-swints c f n =
-    entered _ (psw c f _ (under (put (c .psw) 16 4 n) 0 1 1 (lit≤ tt) (over (c .psw) 16 4 n (lit≤ tt) (f .twelve)))) 4 refl (lit< tt)
+-- every entry
+pub entries : (e : Entry) (c : Control) → Form c → Form (entered e c)
+unfolding entered withSfr
+entries Entry.Nothing c f = f
+entries (Entry.Swint n) c f =
+    enters _ (psw c f _ (under (put (c .psw) 16 4 n) 0 1 1 (lit≤ tt) (over (c .psw) 16 4 n (lit≤ tt) (f .twelve)))) 4 refl (lit< tt)
+entries (Entry.Debug hit) c f =
+    enters _
+    (debug-bits _ (psw c f _ (under (put (c .psw) 16 4 15) 0 1 0 (lit≤ tt) (over (c .psw) 16 4 15 (lit≤ tt) (f .twelve)))) 6 3 hit (lit≤ tt) (lit≤ tt))
+    4
+    refl
+    (lit< tt)
+entries Entry.Timer c f = enters _ (pending _ (bit c f 2 true (lit≤ tt))) 8 refl (lit< tt)
+entries (Entry.External i) c f =
+    enters _ (psw c f _ (under (put (c .psw) 26 6 (lslOf 1 i)) 1 1 1 (lit≤ tt) (over (c .psw) 26 6 (lslOf 1 i) (lit≤ tt) (f .twelve)))) 12 refl (lit< tt)
 
--- every place of a row
-abbrev AllForm : List Control → Type 0
-AllForm [] = Unit {0}
-AllForm (x ∷ l) = Form x × AllForm l
-
-at-row : (l : List Control) (n : ℕ) (d : Control) → Form d → AllForm l → Form (getD l n d)
-at-row [] n d f a = f
-at-row (x ∷ l) zero d f a = a .0
-at-row (x ∷ l) (suc n) d f a = at-row l n d f (a .1)
-
--- the entries
+-- what instructions do to the control part
 module _ (c : Control) (f : Form c) where
-  timers : Form (timerEntry c)
-  unfolding timerEntry
-  timers = entered _ (pending _ (bit c f 2 true (lit≤ tt))) 8 refl (lit< tt)
-
-  externals : (i : ℕ) → Form (externalEntry i c)
-  unfolding externalEntry
-  externals i =
-      entered _ (psw c f _ (under (put (c .psw) 26 6 (lslOf 1 i)) 1 1 1 (lit≤ tt) (over (c .psw) 26 6 (lslOf 1 i) (lit≤ tt) (f .twelve)))) 12 refl (lit< tt)
-
-  debugs : (hit : ℕ) → Form (debugEntry hit c)
-  unfolding debugEntry withPsw
-  debugs hit =
-      entered _
-      (debug-bits _ (psw c f _ (under (put (c .psw) 16 4 15) 0 1 0 (lit≤ tt) (over (c .psw) 16 4 15 (lit≤ tt) (f .twelve)))) 6 3 hit (lit≤ tt) (lit≤ tt))
-      4
-      refl
-      (lit< tt)
-
-  watches : (a : ℕ) → Form (watched a c)
-  unfolding watched
-  watches a = go (ltb 0 (watchHit a c)) (debugs (watchHit a c))
-    where
-      go : (t : Bool) → Form (debugEntry (watchHit a c) c) → Form (cond t (debugEntry (watchHit a c) c) c)
-      go true d = d
-      go false d = f
-
-  -- what instructions do to the control part
   branches : (t : Bool) (d : HalfDisp) (n : ℕ) → n % 2 ≡ 0 → Form (branch t d n c)
   unfolding branch
   branches t d n e = go (wants t c)
@@ -247,23 +192,15 @@ module _ (c : Control) (f : Form c) where
 
   writes : (n v : ℕ) → Form (written n v c)
   unfolding written
-  writes n v =
-      at-row (writtenRow v c) n c f (
-        psw c f _ (kept-psw v),
-        (
-          ra c f v,
-          (
-            ipc c f v,
-            (
-              timed v,
-              (
-                ibase c f v,
-                (usreg c f v, (debug-bits c f 2 4 (fieldOf v 2 4) (lit≤ tt) (lit≤ tt), (bp0 c f v, (bp1 c f v, (wp0 c f v, (wp1 c f v, tt)))))),
-              ),
-            ),
-          ),
-        ),
-      )
+  writes n v = go (eqb n 0) (eqb n 3) (eqb n 6) refl refl refl
+    where
+      go : (p t h : Bool) → eqb n 0 ≡ p → eqb n 3 ≡ t → eqb n 6 ≡ h
+          → Form (cond p (withPsw c (pswWritten (c .psw) v))
+          (cond t (timerWritten v c) (cond h (withHwdbg c (withField (c .hwdbg) 2 4 (fieldOf v 2 4))) (withSfr n c v))))
+      go true t h x y z = psw c f _ (kept-psw v)
+      go false true h x y z = timed v
+      go false false true x y z = debug-bits c f 2 4 (fieldOf v 2 4) (lit≤ tt) (lit≤ tt)
+      go false false false x y z = other c f n v x y z
 
   carries : (op : AluOp) (x y : ℕ) → Form (carried op x y c)
   unfolding carried
@@ -312,65 +249,63 @@ module _ (c : Control) (f : Form c) where
   executes (Instr.Jr b) x y v = goes c f y
   executes (Instr.Jrl b) x y v = goes (linked c) (links c f) y
   executes (Instr.Jsfr n) x y v = goes (leave n c) (leaves n) (sfrOf n c)
-  executes (Instr.Swint n) x y v = swints (onward 2 c) (onwards c f 2 refl) n
+  executes (Instr.Swint n) x y v = onwards c f 2 refl
   executes (Instr.ShortJump op d) x y v = short-jumps op d
   executes (Instr.LongJump op d) x y v = long-jumps op d
 
-reached : (r : Reach) (c : Control) → Form c → Form (watchedBy r c)
-reached Reach.Nowhere c f = f
-reached (Reach.Reads w a) c f = watches c f (a .0)
-reached (Reach.Writes w a) c f = watches c f (a .0)
-
 -- every step: what it makes is in form if it completes
-abbrev Kept : Out → Type 0
-Kept (Out.Stop r) = Unit {0}
-Kept (Out.Go d) = Form (d .control)
+abbrev Kept : Stepped → Type 0
+Kept (stopped r) = Unit {0}
+Kept (completed d m k x) = Form (d .control)
 
-acted : (t u : Bool) (p q : Reply) (e : Effect) (n : Taint) (r : Reach) (c : Control) → Form (e .control)
-    → Kept (actOut (cond t (Act.Stop p) (cond u (Act.Stop q) (Act.Does e n r))) c)
+acted : (t u : Bool) (p q : Reply) (e : Effect) (n : Taint) (r : Reach) (x : Val) (c : Control) (m k : List ℕ) → Form (e .control)
+    → Kept (actStep (cond t (Act.Stop p) (cond u (Act.Stop q) (Act.Does e n r))) x c m k)
 unfolding doneOf
-acted true u p q e n r c f = tt
-acted false true p q e n r c f = tt
-acted false false p q e n r c f = falls (watchedBy r (e .control)) (reached r (e .control) f) (on (c .psw) 4 && not (e .wrote))
+acted true u p q e n r x c m k f = tt
+acted false true p q e n r x c m k f = tt
+acted false false p q e n r x c m k f =
+    falls (entered (entryBy r (e .control)) (e .control)) (entries (entryBy r (e .control)) (e .control) f) (on (c .psw) 4 && not (e .wrote))
 
-acts : (i : Instr) (x y : Val) (f : Flags) (c : Control) (m k : List ℕ) → Form c → Kept (actOut (actOf i x y f c m k) c)
+acts : (i : Instr) (x y : Val) (f : Flags) (c : Control) (m k : List ℕ) → Form c → Kept (actStep (actOf i x y f c m k) x c m k)
 unfolding actOf
 acts i x y f c m k g =
     let r : Reach = reachOf i (y .value) c in
-    acted (operandMarked i y f) (outside r m) Reply.MarkedOperand Reply.DataOutside
+    acted (blocked i (y .mark) f) (outside r m) Reply.MarkedOperand Reply.DataOutside
     (exec i (x .value) (y .value) (loadedFrom r m) c)
     (taint i (x .mark) (y .mark) (loadedMark r k) (tf c) f)
     r
+    x
     c
+    m
+    k
     (executes c g i (x .value) (y .value) (loadedFrom r m))
 
-fetches : (x : Fetched) (s : State) (m k : List ℕ) → Form (s .control) → Kept (fetchStep x s m k .out)
+fetches : (x : Fetched) (s : State) (m k : List ℕ) → Form (s .control) → Kept (fetchStep x s m k)
 unfolding instrStep
 fetches (Fetched.Stop r) s m k f = tt
-fetches (Fetched.Run i) s m k f = acts i (valueAt s (operandsOf i .first)) (valueAt s (operandsOf i .second)) (s .flags) (s .control) m k f
+fetches (Fetched.Run i) s m k f = acts i (valueAt s (sourcesOf i .first)) (valueAt s (sourcesOf i .second)) (s .flags) (s .control) m k f
 
-event-keeps : (e : Event) (s : State) (m k : List ℕ) → Form (s .control) → Kept (eventStep e s m k .out)
-event-keeps Event.Timer s m k f = falls _ (timers (s .control) f) (on (s .control .psw) 4)
-event-keeps (Event.Line i) s m k f = falls _ (externals (s .control) f i) (on (s .control .psw) 4)
-event-keeps Event.Break s m k f = falls _ (debugs (s .control) f 1) (on (s .control .psw) 4)
-event-keeps Event.Instruction s m k f = fetches (fetchOf (s .control .pc) m k) s m k f
+event-keeps : (v : Event) (s : State) (m k : List ℕ) → Form (s .control) → Kept (eventStep v s m k)
+unfolding entryDone
+event-keeps (Event.Enter e) s m k f = falls _ (entries e (s .control) f) (on (s .control .psw) 4)
+event-keeps Event.Instruction s m k f = fetches (fetchOf (pcOf (s .control)) m k) s m k f
 
-pub step-keeps : (t : ℕ) (s : State) (m k : List ℕ) → Form (s .control) → Kept (stepOf t s m k .out)
+pub step-keeps : (t : ℕ) (s : State) (m k : List ℕ) → Form (s .control) → Kept (stepOf t s m k)
 unfolding stepOf
 step-keeps t s m k f = event-keeps (chosen t (s .control)) s m k f
 
 -- every run
-goes-on : (rest : State → List ℕ → List ℕ → Final) (n : ℕ) (s : State) (o : Out) (m k : List ℕ) → Form (s .control) → Kept o
-    → ((u : State) → Form (u .control) → Form (rest u m k .ended .state .control)) → Form (goOn rest n s o m k .ended .state .control)
+goes-on : (rest : State → List ℕ → List ℕ → Final) (n : ℕ) (s : State) (m k : List ℕ) (x : Stepped) → Form (s .control) → Kept x
+    → ((u : State) (l j : List ℕ) → Form (u .control) → Form (rest u l j .ended .state .control)) → Form (goOn rest n s m k x .ended .state .control)
 unfolding goOn after
-goes-on rest n s (Out.Stop r) m k f g h = f
-goes-on rest n s (Out.Go d) m k f g h = h (after d s) g
+goes-on rest n s m k (stopped r) f g h = f
+goes-on rest n s m k (completed d l j x) f g h = h (after d s) l j g
 
 pub steps-keep : (b n : ℕ) (t : List ℕ) (s : State) (m k : List ℕ) → Form (s .control) → Form (stepsOf b n t s m k .ended .state .control)
 unfolding stepsOf
 steps-keep zero n t s m k f = f
 steps-keep (suc b) n t s m k f =
-    goes-on (stepsOf b (n + 1) t) n s (stepOf (getD t n 0) s m k .out) _ _ f (step-keeps (getD t n 0) s m k f) (λ u g. steps-keep b (n + 1) t u _ _ g)
+    goes-on (stepsOf b (n + 1) t) n s m k (stepOf (getD t n 0) s m k) f (step-keeps (getD t n 0) s m k f) (λ u l j g. steps-keep b (n + 1) t u l j g)
 
 judged-keeps : (j : Judged) (b : ℕ) (t : List ℕ) (s : State) (m k : List ℕ) → Form (s .control) → Form (judged j b t s m k .ended .state .control)
 judged-keeps (Judged.Refused r) b t s m k f = f

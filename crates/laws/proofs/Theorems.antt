@@ -1,32 +1,36 @@
--- The theorems of this crate, each with its statement; read this file alone with specs/. The proofs are in the files that it cites.
+-- Theorems on the machine's definitions, each with its statement; read this file alone with specs/. The proofs are in the files that it cites.
 -- Assumes nothing.
-use Prim.Native.Nat.{ℕ, _+_, _%_}
-use mathlib.Core.Path.{_≡_, refl, sym, _∙_}
+use Prim.Native.Nat.{ℕ, zero, suc, _+_, _%_, _<_}
+use mathlib.Core.Path.{_≡_, refl, sym, subst, _∙_}
 use mathlib.Core.Bool.{Bool, true, false, not, _&&_, _||_}
 use mathlib.Core.List.{List}
 use native.Mathlib.Omega.{arith}
 use lib.Dec.{ltb, eqb}
+use lib.ListN.{length, getD}
 use borrow.Author.Tests.{eqb-true, eqb-false, ltb-false, not-false}
 use Rattle.word.specs.Bits.{on, fieldOf}
+use Rattle.cpu.specs.Control.{pcOf}
+use Rattle.cpu.specs.Entries.{entered}
 use Rattle.cpu.specs.declared.Control.{Control}
-use Rattle.cpu.specs.Exec.{operandsOf}
-use Rattle.machine.specs.State.{valueAt, outOfForm}
-use Rattle.machine.specs.Form.{Form}
-use Rattle.machine.specs.Fetch.{fetchOf}
-use Rattle.machine.specs.Step.{chosen, actOf, actOut, actMem, actMarks, instrStep, fetchStep, eventStep, stepOf}
-use Rattle.machine.specs.Run.{Final, final, stepsOf, judge, runOf}
+use Rattle.cpu.specs.declared.Entry.{Entry}
+use Rattle.instruction.specs.declared.Reply.{Reply}
+use Rattle.machine.specs.State.{outOfForm}
+use Rattle.machine.specs.Step.{Stepped, stopped, completed, stepOf}
+use Rattle.machine.specs.Run.{final, goOn, stepsOf, judge, runOf}
+use Rattle.machine.specs.Trace.{traceOf, shownOf}
+use Rattle.machine.specs.Parts.{seenIn}
 use Rattle.machine.specs.declared.State.{State}
-use Rattle.machine.specs.declared.Val.{Val}
-use Rattle.machine.specs.declared.Reply.{Reply}
-use Rattle.machine.specs.declared.Event.{Event}
-use Rattle.machine.specs.declared.Fetched.{Fetched}
-use Rattle.machine.specs.declared.Act.{Act}
-use Rattle.machine.specs.declared.Out.{Out}
 use Rattle.machine.specs.declared.Judged.{Judged}
 use Rattle.machine.specs.declared.Ended.{Ended}
-use Rattle.machine.specs.Cut.{resume}
-use Rattle.machine.proofs.Keeps.{run-keeps}
-use Rattle.machine.proofs.Cut.{cut}
+use Rattle.machine.specs.declared.Done.{Done}
+use Rattle.machine.specs.declared.Line.{Line}
+use Rattle.machine.specs.declared.Seen.{Seen}
+use Rattle.laws.specs.Form.{Form}
+use Rattle.laws.specs.Cut.{resume}
+use Rattle.laws.specs.Shows.{Shows, Bits, ChangedAt}
+use Rattle.laws.proofs.Keeps.{run-keeps}
+use Rattle.laws.proofs.Cut.{cut}
+use Rattle.laws.proofs.Trace.{Told, told, entry-bits, run-counted, nth-line}
 
 -- 1. A refusal changes nothing and counts 0 steps.
 pub refusal-changes-nothing : (b : ℕ) (t : List ℕ) (s : State) (m k : List ℕ) (r : Reply)
@@ -34,30 +38,11 @@ pub refusal-changes-nothing : (b : ℕ) (t : List ℕ) (s : State) (m k : List �
 unfolding runOf
 refusal-changes-nothing b t s m k r e = rw e
 
--- 2. A step that stops changes nothing: memory and marks stay, and the state before it is the one returned (Run.antt, goOn).
-act-stops : (a : Act) (x : Val) (c : Control) (m k : List ℕ) (r : Reply) → actOut a c ≡ Out.Stop r → (actMem a x m ≡ m) × (actMarks a x k ≡ k)
-act-stops (Act.Stop q) x c m k r e = (refl, refl)
-act-stops (Act.Does e t q) x c m k r g = let z : _≡_ {A = ℕ} 0 1 = cc in absurd (omega arith)
-
-fetch-stops : (x : Fetched) (s : State) (m k : List ℕ) (r : Reply) → fetchStep x s m k .out ≡ Out.Stop r
-    → (fetchStep x s m k .mem ≡ m) × (fetchStep x s m k .marks ≡ k)
-unfolding instrStep
-fetch-stops (Fetched.Stop q) s m k r e = (refl, refl)
-fetch-stops (Fetched.Run i) s m k r e =
-    let x : Val = valueAt s (operandsOf i .first) in
-    act-stops (actOf i x (valueAt s (operandsOf i .second)) (s .flags) (s .control) m k) x (s .control) m k r e
-
-event-stops : (v : Event) (s : State) (m k : List ℕ) (r : Reply) → eventStep v s m k .out ≡ Out.Stop r
-    → (eventStep v s m k .mem ≡ m) × (eventStep v s m k .marks ≡ k)
-event-stops Event.Timer s m k r e = (refl, refl)
-event-stops (Event.Line i) s m k r e = (refl, refl)
-event-stops Event.Break s m k r e = (refl, refl)
-event-stops Event.Instruction s m k r e = fetch-stops (fetchOf (s .control .pc) m k) s m k r e
-
-pub stop-changes-nothing : (t : ℕ) (s : State) (m k : List ℕ) (r : Reply) → stepOf t s m k .out ≡ Out.Stop r
-    → (stepOf t s m k .mem ≡ m) × (stepOf t s m k .marks ≡ k)
-unfolding stepOf
-stop-changes-nothing t s m k r e = event-stops (chosen t (s .control)) s m k r e
+-- 2. A step that stops changes nothing: after n steps the run ends with the state, memory and marks before it.
+pub stop-changes-nothing : (b n : ℕ) (t : List ℕ) (s : State) (m k : List ℕ) (r : Reply) → stepOf (getD t n 0) s m k ≡ stopped r
+    → stepsOf (suc b) n t s m k ≡ final r n s m k
+unfolding stepsOf goOn
+stop-changes-nothing b n t s m k r e = rw e
 
 -- 3. Every returned state is in form if the given one was; so the program counter never becomes odd.
 or-off : (a b : Bool) → (a || b) ≡ false → (a ≡ false) × (b ≡ false)
@@ -92,10 +77,35 @@ pub run-stays-in-form : (b : ℕ) (t : List ℕ) (s : State) (m k : List ℕ) �
 run-stays-in-form b t s m k e = run-keeps b t s m k (in-form (s .control) e)
 
 -- 4. What run ensures determines its result: two answers, memories and marks that satisfy it coincide.
-pub run-determined : (z : Final) (e f : Ended) (m n k l : List ℕ) → (e ≡ z .ended) × (m ≡ z .mem) × (k ≡ z .marks)
-    → (f ≡ z .ended) × (n ≡ z .mem) × (l ≡ z .marks) → (e ≡ f) × (m ≡ n) × (k ≡ l)
-run-determined z e f m n k l p q = (p .0 ∙ sym (q .0), p .1 ∙ sym (q .1), p .2 ∙ sym (q .2))
+module _ (b : ℕ) (t : List ℕ) (s : State) (m k : List ℕ) where
+  -- the three equations of run's contract
+  abbrev Ensured : Ended → List ℕ → List ℕ → Type 0
+  Ensured e l j = (e ≡ runOf b t s m k .ended) × (l ≡ runOf b t s m k .mem) × (j ≡ runOf b t s m k .marks)
+
+  pub run-determined : (e f : Ended) (l n j i : List ℕ) → Ensured e l j → Ensured f n i → (e ≡ f) × (l ≡ n) × (j ≡ i)
+  run-determined e f l n j i p q = (p .0 ∙ sym (q .0), p .1 ∙ sym (q .1), p .2 ∙ sym (q .2))
 
 -- 5. A run of a + b steps is a run of a steps, and then of b from what that left; a run that stopped stays as it is.
 pub a-cut-run : (a b : ℕ) (t : List ℕ) (s : State) (m k : List ℕ) → stepsOf (a + b) 0 t s m k ≡ resume b t (stepsOf a 0 t s m k)
 a-cut-run a b t s m k = cut a b 0 t s m k
+
+-- 6. The trace has as many lines as the run has completed steps ..
+pub a-line-for-each-step : (b : ℕ) (t : List ℕ) (s : State) (m k : List ℕ) → length (shownOf b t s m k) ≡ runOf b t s m k .ended .steps
+a-line-for-each-step = run-counted
+
+-- .. and line i is the one that the step from what i steps left gives; z is any line.
+pub lines-of-the-steps : (b i : ℕ) (t : List ℕ) (s : State) (m k : List ℕ) (z : Line) → i < length (traceOf b 0 t s m k)
+    → seenIn (stepOf (getD t i 0) (stepsOf i 0 t s m k .ended .state) (stepsOf i 0 t s m k .mem) (stepsOf i 0 t s m k .marks))
+    ≡ Seen.Step (getD (traceOf b 0 t s m k) i z)
+lines-of-the-steps b i t s m k z h =
+    let e : 0 + i ≡ i = omega arith in
+    rw e at (nth-line b i 0 t s m k z h)
+
+-- 7. The line of a completed step shows the program counter before it, the entry that was made, and the address where memory may have changed.
+pub a-line-is-true : (t : ℕ) (s : State) (m k : List ℕ) (d : Done) (l j : List ℕ) (x : Line) → stepOf t s m k ≡ completed d l j x
+    → Shows (s .control) d x × ChangedAt (x .address) m l
+a-line-is-true t s m k d l j x e = subst (λ (y : Stepped). Told (s .control) m y) e (told t s m k)
+
+-- 8. An entry has its vector and its bits.
+pub an-entry-by-its-bits : (e : Entry) (c : Control) → Bits e c (entered e c)
+an-entry-by-its-bits = entry-bits
