@@ -18,7 +18,7 @@ use Rattle.secrecy.specs.Same.{SameList, SameMem, Same, SameFinal}
 use Rattle.secrecy.proofs.Theorems.{two-runs}
 use Rattle.script.specs.Line.{blank}
 use Rattle.script.specs.Reader.{Fed, fed, startOf, byteOf, feedOf}
-use Rattle.script.specs.Answer.{answerBy, page, writeOn, pcText, registerText, registersText, stateText, endedText}
+use Rattle.script.specs.Answer.{answerBy, Page, page, writeOn, pcText, registerText, registersText, stateText, endedText}
 use Rattle.cpu.specs.Control.{withPsw}
 use Rattle.script.specs.Whole.{answerOf, joined, feedAll}
 use Rattle.script.specs.declared.Reader.{Reader}
@@ -104,3 +104,27 @@ calls-answer ps l o out n h e =
     e
     ∙ written _ o (fits (feedAll ps (fed startOf l blank blank) .reader) (feedAll ps (fed startOf l blank blank) .mem) (feedAll ps (fed startOf l blank blank) .marks))
     ∙ ap (λ (t : List ℕ). page (sets o 0 t) (length t)) (answer-is-whole ps l h)
+
+-- ---- what `start`, `feed` and `answer` ensure determines their results: two that satisfy it coincide
+
+-- the reader, and both rooms at exit
+pub start-determined : (r s : Reader) (m n k l : List ℕ) → (r ≡ startOf) × (m ≡ blank) × (k ≡ blank) → (s ≡ startOf) × (n ≡ blank) × (l ≡ blank)
+    → (r ≡ s) × (m ≡ n) × (k ≡ l)
+start-determined r s m n k l u v = (u .0 ∙ sym (v .0), u .1 ∙ sym (v .1), u .2 ∙ sym (v .2))
+
+-- a part, with the reader, line, memory and marks at entry: those at exit
+pub feed-determined : (part : List ℕ) (r : Reader) (line m k : List ℕ) (s q : Reader) (l p n o j i : List ℕ)
+    → fed s l n j ≡ feedOf part (fed r line m k) → fed q p o i ≡ feedOf part (fed r line m k)
+    → (s ≡ q) × (l ≡ p) × (n ≡ o) × (j ≡ i)
+feed-determined part r line m k s q l p n o j i u v =
+    let e : fed s l n j ≡ fed q p o i = u ∙ sym v in
+    (ap (λ (f : Fed). f .reader) e, ap (λ (f : Fed). f .line) e, ap (λ (f : Fed). f .mem) e, ap (λ (f : Fed). f .marks) e)
+
+-- the reader, memory, marks and the room for the text at entry: the length, and the room, memory and marks at exit
+pub answer-determined : (r : Reader) (m k out : List ℕ) (a b : ℕ) (o p n l j i : List ℕ)
+    → (page o a ≡ writeOn (answerBy r m k .text) (page out 0)) × (n ≡ answerBy r m k .mem) × (j ≡ answerBy r m k .marks)
+    → (page p b ≡ writeOn (answerBy r m k .text) (page out 0)) × (l ≡ answerBy r m k .mem) × (i ≡ answerBy r m k .marks)
+    → (a ≡ b) × (o ≡ p) × (n ≡ l) × (j ≡ i)
+answer-determined r m k out a b o p n l j i u v =
+    let e : page o a ≡ page p b = u .0 ∙ sym (v .0) in
+    (ap (λ (x : Page). x .at) e, ap (λ (x : Page). x .text) e, u .1 ∙ sym (v .1), u .2 ∙ sym (v .2))
