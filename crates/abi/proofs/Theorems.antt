@@ -6,12 +6,12 @@ use mathlib.Core.Bool.{Bool, true, false}
 use mathlib.Core.List.{List, [], _++_, flatten}
 use native.Mathlib.Omega.{arith}
 use lib.ListN.{length, getD, drop, drop-of-length-le}
-use Rattle.machine.specs.State.{numberOf}
+use Rattle.instruction.specs.Reply.{numberOf}
 use Rattle.machine.specs.Run.{judge, runOf}
 use Rattle.machine.specs.declared.State.{State}
-use Rattle.machine.specs.declared.Reply.{Reply}
+use Rattle.instruction.specs.declared.Reply.{Reply}
 use Rattle.machine.specs.declared.Judged.{Judged}
-use Rattle.machine.proofs.Theorems.{refusal-changes-nothing}
+use Rattle.laws.proofs.Theorems.{refusal-changes-nothing}
 use Rattle.abi.specs.Record.{each, stateAt, flags, zeros, sfrsOf, controlPart, recordOf, shaped, InRange, Bytes}
 use Rattle.abi.specs.Call.{notRecord, called}
 use Rattle.abi.proofs.Sixteen.{sixteen-at, run-sixteen}

@@ -3,7 +3,7 @@
 use Prim.Native.Nat.{ℕ}
 use mathlib.Core.Bool.{cond}
 use mathlib.Core.List.{List}
-use Rattle.machine.specs.State.{numberOf}
+use Rattle.instruction.specs.Reply.{numberOf}
 use Rattle.machine.specs.Run.{Final, runOf}
 use Rattle.abi.specs.Record.{shaped, stateAt, recordOf}
 

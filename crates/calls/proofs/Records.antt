@@ -19,7 +19,7 @@ use Rattle.word.proofs.Memory.{load-same}
 use Rattle.cpu.specs.Control.{withPsw}
 use Rattle.cpu.specs.declared.Control.{Control}
 use Rattle.marks.specs.declared.Flags.{Flags}
-use Rattle.machine.specs.State.{numberOf}
+use Rattle.instruction.specs.Reply.{numberOf}
 use Rattle.machine.specs.Run.{Final, runOf}
 use Rattle.machine.specs.declared.State.{State}
 use Rattle.secrecy.specs.Same.{hide, SamePsw, SameMem, Same, SameFinal}

@@ -21,7 +21,7 @@ use Rattle.marks.specs.Memory.{markedAt}
 use Rattle.marks.specs.declared.Flags.{Flags}
 use Rattle.marks.specs.declared.Taint.{Taint}
 use Rattle.instruction.specs.Reply.{numberOf}
-use Rattle.instruction.specs.Fetch.{halfAt, afterHalf, guarded, found, fetchOf}
+use Rattle.instruction.specs.Fetch.{afterHalf, guarded, found, fetchOf}
 use Rattle.instruction.specs.Act.{Val, reachOf, outside, loadedFrom, loadedMark, actOf}
 use Rattle.instruction.specs.Statements.{decodedAt}
 use Rattle.instruction.specs.declared.Reply.{Reply}

@@ -1,13 +1,12 @@
 -- Every step keeps a state in form; the program counter never becomes odd.
 -- Assumes nothing.
-use Prim.Native.Nat.{ℕ, zero, suc, _+_, _*_, _-_, _/_, _%_, _^_, _<_, _≤_}
+use Prim.Native.Nat.{ℕ, _+_, _-_, _/_, _%_, _^_, _<_, _≤_}
 use mathlib.Core.Path.{_≡_, refl, ap, _∙_}
 use mathlib.Core.Bool.{Bool, true, false, cond, not, _&&_, _||_}
 use mathlib.Core.List.{List}
 use native.Mathlib.Omega.{arith}
 use native.Mathlib.Nat.{mod-mod}
 use lib.Dec.{ltb, eqb, lit≤, lit<}
-use lib.ListN.{getD}
 use borrow.Author.Tests.{ltb-true, ltb-false, eqb-true}
 use Rattle.word.specs.Bits.{num, on, fieldOf, put, withField, withBit}
 use Rattle.word.specs.Numbers.{lslOf, carryOf, borrowOf}
@@ -19,7 +18,7 @@ use Rattle.isa.specs.declared.AluOp.{AluOp}
 use Rattle.isa.specs.declared.ShortOp.{ShortOp}
 use Rattle.isa.specs.declared.LongOp.{LongOp}
 use Rattle.isa.specs.declared.Instr.{Instr}
-use Rattle.cpu.specs.Control.{pcOf, withPc, withSfr, withPsw, withRa, withIpc, withHwdbg, withPending, withTimer, withTf, tf, cy, sfrOf}
+use Rattle.cpu.specs.Control.{pcOf, withPc, withSfr, withPsw, withHwdbg, withPending, withTimer, withTf, tf, cy, sfrOf}
 use Rattle.cpu.specs.Entries.{vector, enter, entered, fallen}
 use Rattle.cpu.specs.Exec.{onward, goTo, linked, jump, wants, branch, shortJump, longJump, carried, cmpOf, cmpImmOf, accepted, timerWritten, pswWritten, written, leave, exec, sourcesOf}
 use Rattle.cpu.specs.declared.Control.{Control}
@@ -36,11 +35,11 @@ use Rattle.instruction.specs.declared.Reach.{Reach}
 use Rattle.instruction.specs.declared.Act.{Act}
 use Rattle.machine.specs.State.{valueAt}
 use Rattle.machine.specs.Step.{Stepped, stopped, completed, chosen, entryBy, entryDone, doneOf, actStep, instrStep, fetchStep, eventStep, stepOf, after}
-use Rattle.machine.specs.Run.{Final, goOn, stepsOf, judge, judged, runOf}
+use Rattle.machine.specs.Run.{runOf}
 use Rattle.machine.specs.declared.State.{State}
 use Rattle.machine.specs.declared.Event.{Event}
-use Rattle.machine.specs.declared.Judged.{Judged}
 use Rattle.laws.specs.Form.{Form}
+use Rattle.laws.proofs.Every.{After, run-every}
 
 module _ (c : Control) (f : Form c) where
   -- one place
@@ -290,27 +289,15 @@ unfolding entryDone
 event-keeps (Event.Enter e) s m k f = falls _ (entries e (s .control) f) (on (s .control .psw) 4)
 event-keeps Event.Instruction s m k f = fetches (fetchOf (pcOf (s .control)) m k) s m k f
 
-pub step-keeps : (t : ℕ) (s : State) (m k : List ℕ) → Form (s .control) → Kept (stepOf t s m k)
+step-keeps : (t : ℕ) (s : State) (m k : List ℕ) → Form (s .control) → Kept (stepOf t s m k)
 unfolding stepOf
 step-keeps t s m k f = event-keeps (chosen t (s .control)) s m k f
 
--- every run
-goes-on : (rest : State → List ℕ → List ℕ → Final) (n : ℕ) (s : State) (m k : List ℕ) (x : Stepped) → Form (s .control) → Kept x
-    → ((u : State) (l j : List ℕ) → Form (u .control) → Form (rest u l j .ended .state .control)) → Form (goOn rest n s m k x .ended .state .control)
-unfolding goOn after
-goes-on rest n s m k (stopped r) f g h = f
-goes-on rest n s m k (completed d l j x) f g h = h (after d s) l j g
-
-pub steps-keep : (b n : ℕ) (t : List ℕ) (s : State) (m k : List ℕ) → Form (s .control) → Form (stepsOf b n t s m k .ended .state .control)
-unfolding stepsOf
-steps-keep zero n t s m k f = f
-steps-keep (suc b) n t s m k f =
-    goes-on (stepsOf b (n + 1) t) n s m k (stepOf (getD t n 0) s m k) f (step-keeps (getD t n 0) s m k f) (λ u l j g. steps-keep b (n + 1) t u l j g)
-
-judged-keeps : (j : Judged) (b : ℕ) (t : List ℕ) (s : State) (m k : List ℕ) → Form (s .control) → Form (judged j b t s m k .ended .state .control)
-judged-keeps (Judged.Refused r) b t s m k f = f
-judged-keeps Judged.Good b t s m k f = steps-keep b 0 t s m k f
-
+-- so every run does
 pub run-keeps : (b : ℕ) (t : List ℕ) (s : State) (m k : List ℕ) → Form (s .control) → Form (runOf b t s m k .ended .state .control)
-unfolding runOf
-run-keeps b t s m k f = judged-keeps (judge b t s m k) b t s m k f
+unfolding after
+run-keeps b t s m k f = run-every (λ (u : State). Form (u .control)) (λ i u l j g. go u (stepOf i u l j) (step-keeps i u l j g)) b t s m k f
+  where
+    go : (u : State) (x : Stepped) → Kept x → After (λ (v : State). Form (v .control)) u x
+    go u (stopped r) h = tt
+    go u (completed d l j x) h = h

@@ -1,3 +1,4 @@
+pub mod Every
 pub mod Keeps
 pub mod Cut
 pub mod Trace

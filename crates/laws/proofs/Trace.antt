@@ -1,9 +1,9 @@
 -- The trace is what the steps gave.
 -- Assumes nothing.
-use Prim.Native.Nat.{ℕ, zero, suc, _+_, _%_, _^_, _≤_, _<_}
-use mathlib.Core.Path.{_≡_, refl, sym, ap, _∙_}
+use Prim.Native.Nat.{ℕ, zero, suc, _+_, _≤_, _<_}
+use mathlib.Core.Path.{_≡_, refl, ap, _∙_}
 use mathlib.Core.Bool.{Bool, true, false, cond, not, _&&_}
-use mathlib.Core.List.{List, [], _∷_}
+use mathlib.Core.List.{List}
 use native.Mathlib.Omega.{arith}
 use native.Mathlib.Nat.{not-suc-le-zero}
 use lib.Dec.{eqb, lit≤}
@@ -11,7 +11,6 @@ use lib.ListN.{length, getD}
 use Rattle.word.specs.Bits.{num, on, fieldOf, put, withField}
 use Rattle.word.specs.Bytes.{bytesOf, inside, store}
 use Rattle.word.specs.Numbers.{lslOf}
-use Rattle.word.specs.declared.ByteAddr.{ByteAddr}
 use Rattle.word.specs.declared.Width.{Width}
 use Rattle.word.proofs.Fields.{kept-above, kept-below, read-back}
 use Rattle.word.proofs.Memory.{store-kept}
@@ -39,7 +38,6 @@ use Rattle.machine.specs.Parts.{seenIn}
 use Rattle.machine.specs.declared.State.{State}
 use Rattle.machine.specs.declared.Event.{Event}
 use Rattle.machine.specs.declared.Judged.{Judged}
-use Rattle.machine.specs.declared.Data.{Data}
 use Rattle.machine.specs.declared.Line.{Line}
 use Rattle.machine.specs.declared.Seen.{Seen}
 use Rattle.laws.specs.Shows.{Shows, Entered, Bits, ChangedAt}

@@ -11,7 +11,7 @@ use lib.Dec.{ltb}
 use lib.Seq.{sets, drop-cons, take-all, take-length, drop-length}
 use borrow.Author.Tests.{ltb-false, lt-ltb, le-ltb}
 use Rattle.script.specs.Answer.{Page, oneOn, writeOn, badText, pcText, endText, registerLine, registerText, registersText, stateText, endedText}
-use Rattle.machine.specs.State.{numberOf}
+use Rattle.instruction.specs.Reply.{numberOf}
 use Rattle.machine.specs.declared.State.{State}
 use Rattle.machine.specs.declared.Ended.{Ended}
 use Rattle.text.specs.Digits.{pairOf, hexText, decimalText}

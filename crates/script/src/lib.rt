@@ -465,7 +465,7 @@ fn put_ended(out: &mut [u8; 256], e: Ended) -> usize
 {
     let reply = e.reply;
     let state = e.state;
-    let n = machine::number(reply);
+    let n = instruction::number(reply);
     let a = put_end(out, n, e.steps);
     if n < 10 {
         return a;
@@ -482,7 +482,7 @@ fn run_fresh(budget: u32, m: &mut [u8], k: &mut [u8]) -> Ended
     ensures { λ _. ⌜ now (k .exit) ≡ runOf budget blank freshState (now (m .entry)) (now (k .entry)) .marks ⌝ }
 {
     let tape = zeros();
-    machine::run(budget as usize, &tape, machine::fresh(), m, k)
+    machine::run::run(budget as usize, &tape, machine::fresh(), m, k)
 }
 
 fn run_on(size: u32, budget: u32, m: &mut [u8], k: &mut [u8]) -> Ended
