@@ -16,7 +16,7 @@ use Rattle.word.specs.Bits.{num, on, put}
 use Rattle.word.specs.Bytes.{load, anyAbove}
 use Rattle.word.proofs.Fields.{above, below}
 use Rattle.word.proofs.Memory.{load-same}
-use Rattle.cpu.specs.Control.{withPsw}
+use Rattle.cpu.specs.Control.{withSfr, withPsw}
 use Rattle.cpu.specs.declared.Control.{Control}
 use Rattle.marks.specs.declared.Flags.{Flags}
 use Rattle.instruction.specs.Reply.{numberOf}
@@ -138,7 +138,7 @@ module _ {r q : List ℕ} (s : SameRecord r q) where
     psw-same = s .psw
 
     pub state-same : Same (stateAt r) (stateAt q)
-    unfolding withPsw each
+    unfolding withSfr each
     state-same =
         let a = in-parts r h in
         let b = in-parts q long in
@@ -262,11 +262,11 @@ module _ (a c : State) (s : Same a c) (n : Sixteen a) where
   other = (sym (s .regs .long) ∙ n .0, ap length (sym (s .marks)) ∙ n .1)
 
   front-same : front a n ≡ front c other
-  unfolding front withPsw
+  unfolding front withSfr
   front-same = ap₂ (λ (k : List Bool) (x : Control). flags k ++ bytes 4 (x .pc)) (s .marks) (s .control .rest)
 
   from88-same : from88 a ≡ from88 c
-  unfolding withPsw
+  unfolding withSfr
   from88-same =
       ap₂ (λ (f : Flags) (x : Control). flags (f .tf ∷ f .cy ∷ x .pending ∷ []) ++ (zeros 1 ++ (words (sfrsOf x) ++ from132))) (s .flags) (s .control .rest)
 

@@ -19,7 +19,7 @@ use Rattle.secrecy.proofs.Theorems.{two-runs}
 use Rattle.script.specs.Line.{blank}
 use Rattle.script.specs.Reader.{Fed, fed, startOf, byteOf, feedOf}
 use Rattle.script.specs.Answer.{answerBy, Page, page, writeOn, pcText, registerText, registersText, stateText, endedText}
-use Rattle.cpu.specs.Control.{withPsw}
+use Rattle.cpu.specs.Control.{withSfr}
 use Rattle.script.specs.Whole.{answerOf, joined, feedAll}
 use Rattle.script.specs.declared.Reader.{Reader}
 use Rattle.script.proofs.Whole.{fed-whole}
@@ -58,7 +58,7 @@ registers-same (suc n) i marks a b s =
 
 -- two states that differ only where marked are written alike
 pub state-same : (a b : State) → Same a b → stateText a ≡ stateText b
-unfolding stateText withPsw
+unfolding stateText withSfr
 state-same a b s =
     ap₂ (λ (x y : List ℕ). x ++ y) (ap (λ (c : Control). pcText (c .pc)) (s .control .rest))
     (registers-same 16 0 (a .marks) (a .regs) (b .regs) (s .regs) ∙ ap (λ (k : List Bool). registersText 16 0 (b .regs) k) (s .marks))
