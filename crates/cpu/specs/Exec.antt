@@ -5,7 +5,7 @@ use mathlib.Core.Bool.{Bool, true, false, cond, not, Bool·beq, _&&_, _||_}
 use lib.Dec.{eqb, leb}
 use lib.Bits.{bitAnd, bitOr, bitXor}
 use Rattle.word.specs.Bits.{on, fieldOf, withField, withBit}
-use Rattle.word.specs.Numbers.{wrap, sumOf, carryOf, differenceOf, borrowOf, productOf, lslOf, lsrOf, asrOf, lessOf, extendOf}
+use Rattle.word.specs.Numbers.{sumOf, carryOf, differenceOf, borrowOf, productOf, lslOf, lsrOf, asrOf, lessOf, extendOf}
 use Rattle.word.specs.Bytes.{bytesOf}
 use Rattle.word.specs.Addresses.{jumpSum, byteSum, alignedOf}
 use Rattle.word.specs.declared.ByteAddr.{ByteAddr}

@@ -9,8 +9,7 @@ use Rattle.word.specs.Bytes.{inside}
 use Rattle.word.specs.declared.ByteAddr.{ByteAddr}
 use Rattle.word.specs.declared.Width.{Width}
 use Rattle.isa.specs.Codes.{kindOf}
-use Rattle.isa.specs.Decode.{nibC, nibD, shortIf, farOf, operandsOf, decodeOf}
-use Rattle.isa.specs.declared.LongOp.{LongOp}
+use Rattle.isa.specs.Decode.{nibC, nibD, shortIf, operandsOf, decodeOf}
 use Rattle.isa.specs.declared.Kind.{Kind}
 use Rattle.isa.specs.declared.Instr.{Instr}
 use Rattle.marks.specs.Memory.{markedAt}

@@ -15,7 +15,6 @@ use Rattle.word.proofs.Memory.{half-lt}
 use Rattle.isa.specs.Encode.{encodeOf}
 use Rattle.isa.specs.declared.Instr.{Instr}
 use Rattle.isa.specs.declared.Decoded.{Decoded}
-use Rattle.isa.specs.declared.Encoded.{Encoded}
 use Rattle.isa.proofs.Theorems.{short-encodes, long-encodes}
 use Rattle.marks.specs.Memory.{markedAt}
 use Rattle.instruction.specs.Fetch.{halfAt, afterHalf, found, fetchOf}

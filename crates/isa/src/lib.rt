@@ -2,7 +2,7 @@
 ghost use mathlib.Core.Path.{_≡_};
 ghost use mathlib.Core.Bool.{_&&_};
 ghost use Prim.Native.Nat.{_+_, _*_, _≤_, _<_};
-ghost use Rattle.isa.specs.Codes.{at, shiftRow, systemRow, aluRow, testRow, fixedRow, jumpRow, lowKind, kindOf};
+ghost use Rattle.isa.specs.Codes.{at, shiftRow, systemRow, aluRow, testRow, fixedRow, jumpRow, kindOf};
 ghost use Rattle.isa.specs.Codes.{shiftNo, aluNo, cmpNo, cmpImmNo, condNo, condImmNo, immNo, loadNo, storeNo, shortNo, longNo};
 ghost use Rattle.isa.specs.Decode.{immOf, nearOf, farOf, shortIf, operandsOf, decodeOf};
 ghost use Rattle.isa.specs.Encode.{only, nibsOf, nibsSigned, nibsByte, nibsSignedByte, encodeImm, encodeShort, encodeLong, encodeOf};
@@ -280,23 +280,24 @@ fn jump_kind(k: u8) -> Kind
     }
 }
 
-fn low_kind(a: u8, b: u8) -> Kind
-    ensures { λ r. ⌜ r ≡ lowKind a b ⌝ }
-{
-    match a {
-        0 => shift_kind(b),
-        1 => system_kind(b),
-        2 => alu_kind(b),
-        3 => test_kind(b),
-        _ => Kind::Nothing,
-    }
-}
-
+// Tests lead to a row: two jump tables in a row cost the compiler more instructions.
 pub fn kind_of(byte: u8) -> Kind
     ensures { λ r. ⌜ r ≡ kindOf byte ⌝ }
 {
     if byte < 64 {
-        low_kind(byte / 16, byte % 16)
+        if byte < 32 {
+            if byte < 16 {
+                shift_kind(byte % 16)
+            } else {
+                system_kind(byte % 16)
+            }
+        } else {
+            if byte < 48 {
+                alu_kind(byte % 16)
+            } else {
+                test_kind(byte % 16)
+            }
+        }
     } else {
         if byte < 224 {
             fixed_kind(byte / 16 - 4)

@@ -18,15 +18,15 @@ use Rattle.isa.specs.declared.Kind.{Kind}
 use Rattle.isa.specs.declared.Instr.{Instr}
 use Rattle.isa.proofs.Rows.{and-left, and-right}
 use Rattle.cpu.specs.Control.{pcOf, tf}
-use Rattle.cpu.specs.Entries.{entered, isBreak, fallen}
+use Rattle.cpu.specs.Entries.{isBreak}
 use Rattle.cpu.specs.Exec.{noReg, exec, sourcesOf}
 use Rattle.cpu.specs.declared.Control.{Control}
 use Rattle.cpu.specs.declared.Effect.{Effect}
-use Rattle.marks.specs.Marks.{taint, shortBlocked, longBlocked, sfrMark, blocked}
+use Rattle.marks.specs.Marks.{taint, blocked}
 use Rattle.marks.specs.Memory.{badMark}
 use Rattle.marks.specs.declared.Flags.{Flags}
 use Rattle.marks.specs.declared.Taint.{Taint}
-use Rattle.instruction.specs.Fetch.{afterHalf, fetchOf}
+use Rattle.instruction.specs.Fetch.{afterHalf}
 use Rattle.instruction.specs.Act.{Val, reachOf, outside, loadedFrom, loadedMark, actOf}
 use Rattle.instruction.specs.Parts.{firstHalf, secondHalf, decodedTo, bySecond, restBy, byFirst}
 use Rattle.instruction.specs.declared.Reply.{Reply}
@@ -37,7 +37,7 @@ use Rattle.instruction.specs.declared.Act.{Act}
 use Rattle.instruction.proofs.Laws.{fetch-by-parts}
 use Rattle.machine.specs.State.{valueAt, outOfForm}
 use Rattle.machine.specs.Step.{Stepped, stopped, completed, lowest, chosen, storedTo, markedTo, doneOf, lineOf, entryDone, actStep, instrStep, fetchStep, eventStep, stepOf, after}
-use Rattle.machine.specs.Run.{Final, final, goOn, stepsOf, judge, badLength}
+use Rattle.machine.specs.Run.{final, goOn, stepsOf, judge, badLength}
 use Rattle.machine.specs.Parts.{stateOf, outIn, memIn, marksIn, begunHalf, begunBy, begunOf, runHalf, halfStep}
 use Rattle.machine.specs.declared.State.{State}
 use Rattle.machine.specs.declared.Judged.{Judged}

@@ -57,13 +57,25 @@ pub fn entry_of(r: Reach, c: Control) -> Entry
     }
 }
 
+// The same entry made. A match on what is reached costs the loop less than one on the entry.
+fn enter_by(r: Reach, c: Control) -> Control
+    ensures { λ n. ⌜ n ≡ entered (entryBy r c) c ⌝ }
+{
+    match r {
+        Reach::Nowhere => c,
+        Reach::Reads(_, a) => cpu::enter(cpu::watch(a, c), c),
+        Reach::Writes(_, a) => cpu::enter(cpu::watch(a, c), c),
+        Reach::Raises(n) => cpu::enter(Entry::Swint(n), c),
+    }
+}
+
 fn finish(c: Control, e: Effect, t: Taint, r: Reach) -> Done
     ensures { λ d. ⌜ d ≡ doneOf c e t r ⌝ }
 {
     let made = e.control;
     let te = word::both(word::is_on(c.psw, 4), !e.wrote);
     Done {
-        control: cpu::fall(te, cpu::enter(entry_of(r, made), made)),
+        control: cpu::fall(te, enter_by(r, made)),
         flags: Flags {
             tf: t.flags.tf,
             cy: t.flags.cy,

@@ -1,14 +1,7 @@
 use Rattle.cpu.specs.Entries.{entered}
 use borrow.Author.Needs.{needs}
-use borrow.Author.Tests.{lt-ltb, le-ltb, le-leb, lt-leb, eq-eqb, ne-eqb}
 use Rattle.cpu.proofs.enter.Statement.{statement}
 use Rattle.cpu.proofs.enter.Tie as tie
-use Rattle.cpu.proofs.enter.Reads as reads
-use Rattle.cpu.proofs.enter.Lts as lts
-use Rattle.cpu.proofs.enter_debug.Reads as enter-debug-reads
-use Rattle.cpu.proofs.enter_external.Reads as enter-external-reads
-use Rattle.cpu.proofs.enter_swint.Reads as enter-swint-reads
-use Rattle.cpu.proofs.enter_timer.Reads as enter-timer-reads
 
 enum-told : tie.Need-enum-told
 enum-told c = search needs

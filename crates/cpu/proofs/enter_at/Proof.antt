@@ -1,16 +1,7 @@
-use borrow.Author.Tests.{lt-ltb, le-ltb, le-leb, lt-leb, eq-eqb, ne-eqb}
 use Rattle.cpu.specs.Entries.{enter}
 use borrow.Author.Needs.{needs}
 use Rattle.cpu.proofs.enter_at.Statement.{statement}
 use Rattle.cpu.proofs.enter_at.Tie as tie
-use Rattle.cpu.proofs.enter_at.Reads as reads
-use Rattle.cpu.proofs.enter_at.Lts as lts
-use Rattle.cpu.proofs.vector_at.Reads as vector-at-reads
-use Rattle.cpu.proofs.with_ipc.Reads as with-ipc-reads
-use Rattle.cpu.proofs.with_pc.Reads as with-pc-reads
-use Rattle.cpu.proofs.with_psw.Reads as with-psw-reads
-use Rattle.word.proofs.is_on.Reads as is-on-reads
-use Rattle.word.proofs.with_bit.Reads as with-bit-reads
 
 is-on-requires : tie.Need-is-on-requires
 is-on-requires c κs = search needs

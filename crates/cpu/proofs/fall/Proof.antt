@@ -1,13 +1,9 @@
-use borrow.Author.Tests.{lt-ltb, le-ltb, le-leb, lt-leb, eq-eqb, ne-eqb}
+use borrow.Author.Tests.{lt-ltb}
 use Rattle.cpu.specs.Entries.{fallen}
 use Rattle.isa.proofs.Rows.{rest-past}
 use borrow.Author.Needs.{needs}
 use Rattle.cpu.proofs.fall.Statement.{statement}
 use Rattle.cpu.proofs.fall.Tie as tie
-use Rattle.cpu.proofs.fall.Reads as reads
-use Rattle.cpu.proofs.fall.Lts as lts
-use Rattle.cpu.proofs.with_timer.Reads as with-timer-reads
-use Rattle.word.proofs.either.Reads as either-reads
 
 sub-with-timer : tie.Need-sub-with-timer
 sub-with-timer c = search needs

@@ -1,12 +1,7 @@
-use borrow.Author.Tests.{lt-ltb, le-ltb, le-leb, lt-leb, eq-eqb, ne-eqb}
 use Rattle.cpu.specs.Exec.{goTo}
 use borrow.Author.Needs.{needs}
 use Rattle.cpu.proofs.go_to.Statement.{statement}
 use Rattle.cpu.proofs.go_to.Tie as tie
-use Rattle.cpu.proofs.go_to.Reads as reads
-use Rattle.cpu.proofs.go_to.Lts as lts
-use Rattle.cpu.proofs.with_pc.Reads as with-pc-reads
-use Rattle.word.proofs.align.Reads as align-reads
 
 align-requires : tie.Need-align-requires
 align-requires c κs = search needs

@@ -1,12 +1,7 @@
-use borrow.Author.Tests.{lt-ltb, le-ltb, le-leb, lt-leb, eq-eqb, ne-eqb}
 use Rattle.cpu.specs.Exec.{linked}
 use borrow.Author.Needs.{needs}
 use Rattle.cpu.proofs.link.Statement.{statement}
 use Rattle.cpu.proofs.link.Tie as tie
-use Rattle.cpu.proofs.link.Reads as reads
-use Rattle.cpu.proofs.link.Lts as lts
-use Rattle.cpu.proofs.with_ra.Reads as with-ra-reads
-use Rattle.word.proofs.byte_sum.Reads as byte-sum-reads
 
 byte-sum-requires : tie.Need-byte-sum-requires
 byte-sum-requires c κs = search needs

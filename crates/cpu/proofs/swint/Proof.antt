@@ -1,12 +1,7 @@
-use borrow.Author.Tests.{lt-ltb, le-ltb, le-leb, lt-leb, eq-eqb, ne-eqb}
 use Rattle.cpu.specs.Exec.{exec}
 use borrow.Author.Needs.{needs}
 use Rattle.cpu.proofs.swint.Statement.{statement}
 use Rattle.cpu.proofs.swint.Tie as tie
-use Rattle.cpu.proofs.swint.Reads as reads
-use Rattle.cpu.proofs.swint.Lts as lts
-use Rattle.cpu.proofs.go_on.Reads as go-on-reads
-use Rattle.cpu.proofs.move_to.Reads as move-to-reads
 
 go-on-requires : tie.Need-go-on-requires
 go-on-requires c κs = search needs

@@ -1,14 +1,10 @@
-use borrow.Author.Tests.{lt-ltb, le-ltb, le-leb, lt-leb, eq-eqb, ne-eqb}
+use borrow.Author.Tests.{lt-ltb, le-ltb}
 use Rattle.cpu.specs.Entries.{watchEntry}
 use mathlib.Core.Path.{sym, _∙_}
 use Rattle.cpu.proofs.Laws.{unwatched}
 use borrow.Author.Needs.{needs}
 use Rattle.cpu.proofs.watch.Statement.{statement}
 use Rattle.cpu.proofs.watch.Tie as tie
-use Rattle.cpu.proofs.watch.Reads as reads
-use Rattle.cpu.proofs.watch.Lts as lts
-use Rattle.cpu.proofs.watch_hit.Reads as watch-hit-reads
-use Rattle.word.proofs.field.Reads as field-reads
 
 field-requires : tie.Need-field-requires
 field-requires c κs = search needs

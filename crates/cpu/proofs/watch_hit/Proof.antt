@@ -1,13 +1,7 @@
-use borrow.Author.Tests.{lt-ltb, le-ltb, le-leb, lt-leb, eq-eqb, ne-eqb}
 use Rattle.cpu.specs.Entries.{watchHit}
 use borrow.Author.Needs.{needs}
 use Rattle.cpu.proofs.watch_hit.Statement.{statement}
 use Rattle.cpu.proofs.watch_hit.Tie as tie
-use Rattle.cpu.proofs.watch_hit.Reads as reads
-use Rattle.cpu.proofs.watch_hit.Lts as lts
-use Rattle.cpu.proofs.is_hit.Reads as is-hit-reads
-use Rattle.word.proofs.is_on.Reads as is-on-reads
-use Rattle.word.proofs.number.Reads as number-reads
 
 is-on-requires : tie.Need-is-on-requires
 is-on-requires c κs = search needs

@@ -1,11 +1,8 @@
-use borrow.Author.Tests.{lt-ltb, le-ltb, le-leb, lt-leb, eq-eqb, ne-eqb}
 use Rattle.cpu.specs.Control.{withSfr}
 use Rattle.isa.proofs.Rows.{rest-past}
 use Rattle.cpu.proofs.Laws.{with-past}
 use Rattle.cpu.proofs.with_sfr.Statement.{statement}
 use Rattle.cpu.proofs.with_sfr.Tie as tie
-use Rattle.cpu.proofs.with_sfr.Reads as reads
-use Rattle.cpu.proofs.with_sfr.Lts as lts
 
 returns : tie.Need-returns
 unfolding withSfr

@@ -1,17 +1,8 @@
-use borrow.Author.Tests.{lt-ltb, le-ltb, le-leb, lt-leb, eq-eqb, ne-eqb}
+use borrow.Author.Tests.{eq-eqb, ne-eqb}
 use Rattle.cpu.specs.Exec.{written}
 use borrow.Author.Needs.{needs}
 use Rattle.cpu.proofs.write_sfr.Statement.{statement}
 use Rattle.cpu.proofs.write_sfr.Tie as tie
-use Rattle.cpu.proofs.write_sfr.Reads as reads
-use Rattle.cpu.proofs.write_sfr.Lts as lts
-use Rattle.cpu.proofs.keep_psw.Reads as keep-psw-reads
-use Rattle.cpu.proofs.with_hwdbg.Reads as with-hwdbg-reads
-use Rattle.cpu.proofs.with_psw.Reads as with-psw-reads
-use Rattle.cpu.proofs.with_sfr.Reads as with-sfr-reads
-use Rattle.cpu.proofs.write_timer.Reads as write-timer-reads
-use Rattle.word.proofs.field.Reads as field-reads
-use Rattle.word.proofs.with_field.Reads as with-field-reads
 
 keep-psw-requires : tie.Need-keep-psw-requires
 keep-psw-requires c κs = search needs

@@ -1,41 +1,10 @@
 use Rattle.cpu.specs.Exec.{exec}
 use Rattle.marks.specs.Marks.{taint, blocked}
-use borrow.Author.Tests.{lt-ltb, le-ltb, le-leb, lt-leb, eq-eqb, ne-eqb}
 use Rattle.instruction.specs.Act.{reachOf}
 use Rattle.instruction.specs.Act.{actOf}
 use borrow.Author.Needs.{needs}
 use Rattle.instruction.proofs.classes.act_on.Statement.{statement}
 use Rattle.instruction.proofs.classes.act_on.Tie as tie
-use Rattle.instruction.proofs.classes.act_on.Reads as reads
-use Rattle.instruction.proofs.classes.act_on.Lts as lts
-use Rattle.cpu.proofs.compare_imm.Reads as compare-imm-reads
-use Rattle.cpu.proofs.conditional_imm.Reads as conditional-imm-reads
-use Rattle.cpu.proofs.data_address.Reads as data-address-reads
-use Rattle.cpu.proofs.immediate.Reads as immediate-reads
-use Rattle.cpu.proofs.jr.Reads as jr-reads
-use Rattle.cpu.proofs.jrl.Reads as jrl-reads
-use Rattle.cpu.proofs.jsfr.Reads as jsfr-reads
-use Rattle.cpu.proofs.mfsfr.Reads as mfsfr-reads
-use Rattle.cpu.proofs.mtsfr.Reads as mtsfr-reads
-use Rattle.cpu.proofs.shift_imm.Reads as shift-imm-reads
-use Rattle.cpu.proofs.swint.Reads as swint-reads
-use Rattle.instruction.proofs.classes.alu_on.Reads as alu-on-reads
-use Rattle.instruction.proofs.classes.compare_on.Reads as compare-on-reads
-use Rattle.instruction.proofs.classes.conditional_on.Reads as conditional-on-reads
-use Rattle.instruction.proofs.classes.does.Reads as does-reads
-use Rattle.instruction.proofs.classes.keep.Reads as keep-reads
-use Rattle.instruction.proofs.classes.load_on.Reads as load-on-reads
-use Rattle.instruction.proofs.classes.load_pc.Reads as load-pc-reads
-use Rattle.instruction.proofs.classes.long_on.Reads as long-on-reads
-use Rattle.instruction.proofs.classes.short_on.Reads as short-on-reads
-use Rattle.instruction.proofs.classes.stop_if.Reads as stop-if-reads
-use Rattle.instruction.proofs.classes.store_at.Reads as store-at-reads
-use Rattle.marks.proofs.is_sfr_marked.Reads as is-sfr-marked-reads
-use Rattle.marks.proofs.mark_imm.Reads as mark-imm-reads
-use Rattle.marks.proofs.mark_mtsfr.Reads as mark-mtsfr-reads
-use Rattle.marks.proofs.mark_reg.Reads as mark-reg-reads
-use Rattle.marks.proofs.mark_tf.Reads as mark-tf-reads
-use Rattle.word.proofs.either.Reads as either-reads
 
 enum-known-i : tie.Need-enum-known-i
 enum-known-i c = search needs

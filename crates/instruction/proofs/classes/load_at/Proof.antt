@@ -1,16 +1,6 @@
-use borrow.Author.Tests.{lt-ltb, le-ltb, le-leb, lt-leb, eq-eqb, ne-eqb}
 use borrow.Author.Needs.{needs}
 use Rattle.instruction.proofs.classes.load_at.Statement.{statement}
 use Rattle.instruction.proofs.classes.load_at.Tie as tie
-use Rattle.instruction.proofs.classes.load_at.Reads as reads
-use Rattle.instruction.proofs.classes.load_at.Lts as lts
-use Rattle.cpu.proofs.loaded.Reads as loaded-reads
-use Rattle.instruction.proofs.classes.stop_if.Reads as stop-if-reads
-use Rattle.instruction.proofs.classes.stop_outside.Reads as stop-outside-reads
-use Rattle.marks.proofs.is_marked.Reads as is-marked-reads
-use Rattle.marks.proofs.mark_reg.Reads as mark-reg-reads
-use Rattle.word.proofs.is_inside.Reads as is-inside-reads
-use Rattle.word.proofs.load.Reads as load-reads
 
 is-inside-requires : tie.Need-is-inside-requires
 is-inside-requires c κs = search needs

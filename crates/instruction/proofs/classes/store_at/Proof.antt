@@ -1,14 +1,6 @@
-use borrow.Author.Tests.{lt-ltb, le-ltb, le-leb, lt-leb, eq-eqb, ne-eqb}
 use borrow.Author.Needs.{needs}
 use Rattle.instruction.proofs.classes.store_at.Statement.{statement}
 use Rattle.instruction.proofs.classes.store_at.Tie as tie
-use Rattle.instruction.proofs.classes.store_at.Reads as reads
-use Rattle.instruction.proofs.classes.store_at.Lts as lts
-use Rattle.cpu.proofs.stored.Reads as stored-reads
-use Rattle.instruction.proofs.classes.keep.Reads as keep-reads
-use Rattle.instruction.proofs.classes.stop_if.Reads as stop-if-reads
-use Rattle.instruction.proofs.classes.stop_outside.Reads as stop-outside-reads
-use Rattle.word.proofs.is_inside.Reads as is-inside-reads
 
 is-inside-requires : tie.Need-is-inside-requires
 is-inside-requires c κs = search needs

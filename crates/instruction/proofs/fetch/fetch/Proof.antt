@@ -1,13 +1,7 @@
 use Rattle.instruction.proofs.Laws.{fetch-by-parts}
-use borrow.Author.Tests.{lt-ltb, le-ltb, le-leb, lt-leb, eq-eqb, ne-eqb}
 use borrow.Author.Needs.{needs}
 use Rattle.instruction.proofs.fetch.fetch.Statement.{statement}
 use Rattle.instruction.proofs.fetch.fetch.Tie as tie
-use Rattle.instruction.proofs.fetch.fetch.Reads as reads
-use Rattle.instruction.proofs.fetch.fetch.Lts as lts
-use Rattle.instruction.proofs.fetch.first_half.Reads as first-half-reads
-use Rattle.instruction.proofs.fetch.rest_at.Reads as rest-at-reads
-use Rattle.isa.proofs.kind_of.Reads as kind-of-reads
 
 first-half-requires : tie.Need-first-half-requires
 first-half-requires c κs = search needs

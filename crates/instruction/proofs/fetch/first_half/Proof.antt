@@ -1,11 +1,8 @@
-use borrow.Author.Tests.{lt-ltb, le-ltb, le-leb, lt-leb, eq-eqb, ne-eqb}
+use borrow.Author.Tests.{eq-eqb, ne-eqb}
 use Rattle.instruction.specs.Parts.{firstHalf}
 use borrow.Author.Needs.{needs}
 use Rattle.instruction.proofs.fetch.first_half.Statement.{statement}
 use Rattle.instruction.proofs.fetch.first_half.Tie as tie
-use Rattle.instruction.proofs.fetch.first_half.Reads as reads
-use Rattle.instruction.proofs.fetch.first_half.Lts as lts
-use Rattle.instruction.proofs.fetch.read_half.Reads as read-half-reads
 
 returns : tie.Need-returns
 unfolding firstHalf

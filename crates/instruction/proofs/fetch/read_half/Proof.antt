@@ -1,13 +1,7 @@
-use borrow.Author.Tests.{lt-ltb, le-ltb, le-leb, lt-leb, eq-eqb, ne-eqb}
 use Rattle.instruction.specs.Parts.{halfOf}
 use borrow.Author.Needs.{needs}
 use Rattle.instruction.proofs.fetch.read_half.Statement.{statement}
 use Rattle.instruction.proofs.fetch.read_half.Tie as tie
-use Rattle.instruction.proofs.fetch.read_half.Reads as reads
-use Rattle.instruction.proofs.fetch.read_half.Lts as lts
-use Rattle.instruction.proofs.fetch.half_at.Reads as half-at-reads
-use Rattle.marks.proofs.is_marked.Reads as is-marked-reads
-use Rattle.word.proofs.is_inside.Reads as is-inside-reads
 
 is-inside-requires : tie.Need-is-inside-requires
 is-inside-requires c κs = search needs

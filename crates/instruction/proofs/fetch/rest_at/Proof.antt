@@ -1,16 +1,8 @@
 use mathlib.Core.Path.{sym, _∙_}
 use Rattle.instruction.proofs.Laws.{by-second}
-use borrow.Author.Tests.{lt-ltb, le-ltb, le-leb, lt-leb, eq-eqb, ne-eqb}
-use Rattle.instruction.specs.Parts.{restBy}
 use borrow.Author.Needs.{needs}
 use Rattle.instruction.proofs.fetch.rest_at.Statement.{statement}
 use Rattle.instruction.proofs.fetch.rest_at.Tie as tie
-use Rattle.instruction.proofs.fetch.rest_at.Reads as reads
-use Rattle.instruction.proofs.fetch.rest_at.Lts as lts
-use Rattle.instruction.proofs.fetch.decoded.Reads as decoded-reads
-use Rattle.instruction.proofs.fetch.second_half.Reads as second-half-reads
-use Rattle.isa.proofs.operands.Reads as operands-reads
-use Rattle.word.proofs.byte_sum.Reads as byte-sum-reads
 
 byte-sum-requires : tie.Need-byte-sum-requires
 byte-sum-requires c κs = search needs

@@ -1,12 +1,7 @@
-use borrow.Author.Tests.{lt-ltb, le-ltb, le-leb, lt-leb, eq-eqb, ne-eqb}
 use Rattle.instruction.specs.Parts.{secondHalf}
 use borrow.Author.Needs.{needs}
 use Rattle.instruction.proofs.fetch.second_half.Statement.{statement}
 use Rattle.instruction.proofs.fetch.second_half.Tie as tie
-use Rattle.instruction.proofs.fetch.second_half.Reads as reads
-use Rattle.instruction.proofs.fetch.second_half.Lts as lts
-use Rattle.instruction.proofs.fetch.is_long.Reads as is-long-reads
-use Rattle.instruction.proofs.fetch.read_half.Reads as read-half-reads
 
 is-long-requires : tie.Need-is-long-requires
 is-long-requires c κs = search needs

@@ -1,10 +1,6 @@
-use borrow.Author.Tests.{lt-ltb, le-ltb, le-leb, lt-leb, eq-eqb, ne-eqb}
 use borrow.Author.Needs.{needs}
 use Rattle.machine.proofs.choice.break_or.Statement.{statement}
 use Rattle.machine.proofs.choice.break_or.Tie as tie
-use Rattle.machine.proofs.choice.break_or.Reads as reads
-use Rattle.machine.proofs.choice.break_or.Lts as lts
-use Rattle.cpu.proofs.has_break.Reads as has-break-reads
 
 has-break-requires : tie.Need-has-break-requires
 has-break-requires c κs = search needs

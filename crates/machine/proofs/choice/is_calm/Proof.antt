@@ -6,10 +6,6 @@ use Rattle.machine.proofs.Laws.{calm}
 use borrow.Author.Needs.{needs}
 use Rattle.machine.proofs.choice.is_calm.Statement.{statement}
 use Rattle.machine.proofs.choice.is_calm.Tie as tie
-use Rattle.machine.proofs.choice.is_calm.Reads as reads
-use Rattle.machine.proofs.choice.is_calm.Lts as lts
-use Rattle.word.proofs.both.Reads as both-reads
-use Rattle.word.proofs.field.Reads as field-reads
 
 field-requires : tie.Need-field-requires
 field-requires c κs = search needs

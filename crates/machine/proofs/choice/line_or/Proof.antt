@@ -1,10 +1,7 @@
-use borrow.Author.Tests.{lt-ltb, le-ltb, le-leb, lt-leb, eq-eqb, ne-eqb}
+use borrow.Author.Tests.{lt-ltb, le-ltb}
 use borrow.Author.Needs.{needs}
 use Rattle.machine.proofs.choice.line_or.Statement.{statement}
 use Rattle.machine.proofs.choice.line_or.Tie as tie
-use Rattle.machine.proofs.choice.line_or.Reads as reads
-use Rattle.machine.proofs.choice.line_or.Lts as lts
-use Rattle.machine.proofs.choice.break_or.Reads as break-or-reads
 
 break-or-requires : tie.Need-break-or-requires
 break-or-requires c κs = search needs

@@ -5,8 +5,6 @@ use mathlib.Core.Bool.{false}
 use borrow.Author.Needs.{needs}
 use Rattle.machine.proofs.registers.mark_in.Statement.{statement}
 use Rattle.machine.proofs.registers.mark_in.Tie as tie
-use Rattle.machine.proofs.registers.mark_in.Reads as reads
-use Rattle.machine.proofs.registers.mark_in.Lts as lts
 
 array-read-result : tie.Need-array-read-result
 array-read-result c = search needs

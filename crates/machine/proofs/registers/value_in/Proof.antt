@@ -4,8 +4,6 @@ use mathlib.Core.Path.{_≡_, sym}
 use borrow.Author.Needs.{needs}
 use Rattle.machine.proofs.registers.value_in.Statement.{statement}
 use Rattle.machine.proofs.registers.value_in.Tie as tie
-use Rattle.machine.proofs.registers.value_in.Reads as reads
-use Rattle.machine.proofs.registers.value_in.Lts as lts
 
 mul-result : tie.Need-mul-result
 mul-result c = search needs

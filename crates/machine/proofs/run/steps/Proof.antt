@@ -11,15 +11,6 @@ use Rattle.machine.specs.Run.{Final, stepsOf}
 use Rattle.machine.proofs.Laws.{steps-all, mark-stays, steps-end, begins-stop, begins-entry, half-stops, half-goes}
 use Rattle.machine.proofs.run.steps.Statement.{statement}
 use Rattle.machine.proofs.run.steps.Tie as tie
-use Rattle.machine.proofs.run.steps.Reads as reads
-use Rattle.machine.proofs.run.steps.Lts as lts
-use Rattle.machine.proofs.registers.put_mark.Reads as put-mark-reads
-use Rattle.machine.proofs.registers.put_value.Reads as put-value-reads
-use Rattle.machine.proofs.run.end_at.Reads as end-at-reads
-use Rattle.machine.proofs.run.wide.Reads as wide-reads
-use Rattle.machine.proofs.step.begin.Reads as begin-reads
-use Rattle.machine.proofs.step.half_step.Reads as half-step-reads
-use Rattle.word.proofs.same.Reads as same-reads
 
 abbrev Inv-loop : tie.InvT-loop
 Inv-loop b t m₀ k₀ regs₀ marks₀ tf₀ cy₀ control₀ n₀ m k regs marks tf cy control n =

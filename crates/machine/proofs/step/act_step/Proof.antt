@@ -1,12 +1,7 @@
-use borrow.Author.Tests.{lt-ltb, le-ltb, le-leb, lt-leb, eq-eqb, ne-eqb}
 use mathlib.Core.Path.{refl}
 use borrow.Author.Needs.{needs}
 use Rattle.machine.proofs.step.act_step.Statement.{statement}
 use Rattle.machine.proofs.step.act_step.Tie as tie
-use Rattle.machine.proofs.step.act_step.Reads as reads
-use Rattle.machine.proofs.step.act_step.Lts as lts
-use Rattle.machine.proofs.step.finish.Reads as finish-reads
-use Rattle.machine.proofs.step.write_at.Reads as write-at-reads
 
 enum-known-a : tie.Need-enum-known-a
 enum-known-a c = search needs

@@ -1,13 +1,7 @@
-use borrow.Author.Tests.{lt-ltb, le-ltb, le-leb, lt-leb, eq-eqb, ne-eqb}
 use Rattle.machine.specs.Parts.{begunOf}
 use borrow.Author.Needs.{needs}
 use Rattle.machine.proofs.step.begin.Statement.{statement}
 use Rattle.machine.proofs.step.begin.Tie as tie
-use Rattle.machine.proofs.step.begin.Reads as reads
-use Rattle.machine.proofs.step.begin.Lts as lts
-use Rattle.instruction.proofs.fetch.first_half.Reads as first-half-reads
-use Rattle.machine.proofs.choice.choose.Reads as choose-reads
-use Rattle.machine.proofs.step.enter.Reads as enter-reads
 
 choose-requires : tie.Need-choose-requires
 choose-requires c κs = search needs

@@ -1,12 +1,6 @@
-use borrow.Author.Tests.{lt-ltb, le-ltb, le-leb, lt-leb, eq-eqb, ne-eqb}
 use borrow.Author.Needs.{needs}
 use Rattle.machine.proofs.step.enter.Statement.{statement}
 use Rattle.machine.proofs.step.enter.Tie as tie
-use Rattle.machine.proofs.step.enter.Reads as reads
-use Rattle.machine.proofs.step.enter.Lts as lts
-use Rattle.cpu.proofs.enter.Reads as enter-reads
-use Rattle.cpu.proofs.fall.Reads as fall-reads
-use Rattle.word.proofs.is_on.Reads as is-on-reads
 
 is-on-requires : tie.Need-is-on-requires
 is-on-requires c κs = search needs

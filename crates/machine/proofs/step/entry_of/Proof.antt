@@ -1,10 +1,6 @@
-use borrow.Author.Tests.{lt-ltb, le-ltb, le-leb, lt-leb, eq-eqb, ne-eqb}
 use borrow.Author.Needs.{needs}
 use Rattle.machine.proofs.step.entry_of.Statement.{statement}
 use Rattle.machine.proofs.step.entry_of.Tie as tie
-use Rattle.machine.proofs.step.entry_of.Reads as reads
-use Rattle.machine.proofs.step.entry_of.Lts as lts
-use Rattle.cpu.proofs.watch.Reads as watch-reads
 
 enum-told : tie.Need-enum-told
 enum-told c = search needs

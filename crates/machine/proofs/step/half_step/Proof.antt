@@ -1,15 +1,8 @@
-use borrow.Author.Tests.{lt-ltb, le-ltb, le-leb, lt-leb, eq-eqb, ne-eqb}
 use Rattle.machine.specs.Parts.{halfStep}
 use mathlib.Core.Path.{refl}
 use borrow.Author.Needs.{needs}
 use Rattle.machine.proofs.step.half_step.Statement.{statement}
 use Rattle.machine.proofs.step.half_step.Tie as tie
-use Rattle.machine.proofs.step.half_step.Reads as reads
-use Rattle.machine.proofs.step.half_step.Lts as lts
-use Rattle.instruction.proofs.classes.act_on.Reads as act-on-reads
-use Rattle.instruction.proofs.fetch.rest_at.Reads as rest-at-reads
-use Rattle.isa.proofs.kind_of.Reads as kind-of-reads
-use Rattle.machine.proofs.step.act_step.Reads as act-step-reads
 
 cast-kind-of : tie.Need-cast-kind-of
 cast-kind-of c = search needs

@@ -1,11 +1,6 @@
-use borrow.Author.Tests.{lt-ltb, le-ltb, le-leb, lt-leb, eq-eqb, ne-eqb}
 use borrow.Author.Needs.{needs}
 use Rattle.machine.proofs.step.write_at.Statement.{statement}
 use Rattle.machine.proofs.step.write_at.Tie as tie
-use Rattle.machine.proofs.step.write_at.Reads as reads
-use Rattle.machine.proofs.step.write_at.Lts as lts
-use Rattle.marks.proofs.set_marks.Reads as set-marks-reads
-use Rattle.word.proofs.store.Reads as store-reads
 
 enum-told : tie.Need-enum-told
 enum-told c = search needs

@@ -1,12 +1,7 @@
-use borrow.Author.Tests.{lt-ltb, le-ltb, le-leb, lt-leb, eq-eqb, ne-eqb}
 use Rattle.machine.specs.Step.{stepOf}
 use borrow.Author.Needs.{needs}
 use Rattle.machine.proofs.trace.show.Statement.{statement}
 use Rattle.machine.proofs.trace.show.Tie as tie
-use Rattle.machine.proofs.trace.show.Reads as reads
-use Rattle.machine.proofs.trace.show.Lts as lts
-use Rattle.machine.proofs.choice.choose.Reads as choose-reads
-use Rattle.machine.proofs.trace.show_fetch.Reads as show-fetch-reads
 
 choose-requires : tie.Need-choose-requires
 choose-requires c κs = search needs

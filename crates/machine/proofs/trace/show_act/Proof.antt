@@ -1,12 +1,7 @@
 use Rattle.machine.specs.Step.{lineOf}
-use borrow.Author.Tests.{lt-ltb, le-ltb, le-leb, lt-leb, eq-eqb, ne-eqb}
 use borrow.Author.Needs.{needs}
 use Rattle.machine.proofs.trace.show_act.Statement.{statement}
 use Rattle.machine.proofs.trace.show_act.Tie as tie
-use Rattle.machine.proofs.trace.show_act.Reads as reads
-use Rattle.machine.proofs.trace.show_act.Lts as lts
-use Rattle.machine.proofs.step.entry_of.Reads as entry-of-reads
-use Rattle.machine.proofs.trace.data_of.Reads as data-of-reads
 
 enum-told : tie.Need-enum-told
 enum-told c = search needs

@@ -1,11 +1,6 @@
-use borrow.Author.Tests.{lt-ltb, le-ltb, le-leb, lt-leb, eq-eqb, ne-eqb}
 use borrow.Author.Needs.{needs}
 use Rattle.machine.proofs.trace.show_fetch.Statement.{statement}
 use Rattle.machine.proofs.trace.show_fetch.Tie as tie
-use Rattle.machine.proofs.trace.show_fetch.Reads as reads
-use Rattle.machine.proofs.trace.show_fetch.Lts as lts
-use Rattle.instruction.proofs.fetch.fetch.Reads as fetch-reads
-use Rattle.machine.proofs.trace.show_instr.Reads as show-instr-reads
 
 fetch-requires : tie.Need-fetch-requires
 fetch-requires c κs = search needs

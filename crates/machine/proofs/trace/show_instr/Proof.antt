@@ -1,15 +1,7 @@
-use borrow.Author.Tests.{lt-ltb, le-ltb, le-leb, lt-leb, eq-eqb, ne-eqb}
 use Rattle.machine.specs.Step.{instrStep}
 use borrow.Author.Needs.{needs}
 use Rattle.machine.proofs.trace.show_instr.Statement.{statement}
 use Rattle.machine.proofs.trace.show_instr.Tie as tie
-use Rattle.machine.proofs.trace.show_instr.Reads as reads
-use Rattle.machine.proofs.trace.show_instr.Lts as lts
-use Rattle.cpu.proofs.sources_of.Reads as sources-of-reads
-use Rattle.instruction.proofs.classes.act_on.Reads as act-on-reads
-use Rattle.machine.proofs.registers.mark_in.Reads as mark-in-reads
-use Rattle.machine.proofs.registers.value_in.Reads as value-in-reads
-use Rattle.machine.proofs.trace.show_act.Reads as show-act-reads
 
 sources-of-requires : tie.Need-sources-of-requires
 sources-of-requires c κs = search needs
