@@ -10,15 +10,15 @@ use lib.Dec.{ltb, leb, eqb}
 use lib.ListN.{length, getD, set, take, drop, length-set, length-take, List·getD-eq-default}
 use lib.Seq.{sets, set-out, getD-set-same, getD-set-other, getD-take, drop-drop, take-at, drop-at}
 use borrow.Author.Tests.{ltb-true, ne-eqb}
-use Rattle.text.specs.Digits.{valueOf, numberOf, decimalOf, addressOf}
+use Rattle.text.specs.Digits.{valueOf, digitsRead, decimalOf, addressOf}
 use Rattle.text.specs.Fields.{tabOf, beforeOf, beyondOf, sameOf}
 use Rattle.text.specs.declared.Read.{Read}
 use Rattle.machine.specs.State.{freshState}
 use Rattle.secrecy.specs.Same.{SameMem, Same}
 use Rattle.secrecy.proofs.Psw.{psw-like}
-use Rattle.script.specs.Line.{Told, told, blank, budgetOf, areBytes, bytesOf, putOf, markFrom, countOf, markOf, firstOf, bodyOf, lineOf, numberAfter, wordAt, wordMark, wordRun}
+use Rattle.script.specs.Line.{Told, told, blank, budgetOf, areBytes, pairsOf, putOf, markFrom, countOf, markOf, firstOf, bodyOf, lineOf, numberAfter, wordAt, wordMark, wordRun}
 use Rattle.script.specs.Answer.{answered}
-use Rattle.script.specs.Whole.{Script, script, linesOf, leftOf, afterLine, afterLines, begin, isEnded, answerOf}
+use Rattle.script.specs.Whole.{Script, script, linesOf, leftOf, afterLine, afterLines, begin, isEnded, textOf}
 use Rattle.script.specs.declared.Phase.{Phase}
 use Rattle.script.proofs.Theorems.{marked-not-written}
 use Rattle.calls.specs.Inputs.{atLine, AlikeLine, same, bytes, Alike, none, more, marksOf, AlikeInputs}
@@ -84,13 +84,13 @@ pick true x y = x
 pick false x y = y
 
 module _ {k m n : List ℕ} (s : SameMem k m n) (size : ℕ) (j : List ℕ) where
-  puts : (a : ℕ) (g h : List ℕ) → areBytes g ≡ areBytes h → length g ≡ length h → length (bytesOf g) ≡ length (bytesOf h)
-      → ((i : ℕ) → getD k (a + i) 0 ≡ 0 → getD (bytesOf g) i 0 ≡ getD (bytesOf h) i 0)
+  puts : (a : ℕ) (g h : List ℕ) → areBytes g ≡ areBytes h → length g ≡ length h → length (pairsOf g) ≡ length (pairsOf h)
+      → ((i : ℕ) → getD k (a + i) 0 ≡ 0 → getD (pairsOf g) i 0 ≡ getD (pairsOf h) i 0)
       → SameTold k (putOf (Read.Number a) g size m j) (putOf (Read.Number a) h size n j)
   unfolding putOf
   puts a g h t l b f =
       rw (← t, ← l)
-      (pick (areBytes g && leb (a + length g / 2) size) (knows (Phase.Body size) j (sets-same s a (bytesOf g) (bytesOf h) b f)) (knows Phase.Bad j s))
+      (pick (areBytes g && leb (a + length g / 2) size) (knows (Phase.Body size) j (sets-same s a (pairsOf g) (pairsOf h) b f)) (knows Phase.Bad j s))
 
   put-same : (r : Read) (h : List ℕ) → SameTold k (putOf r h size m j) (putOf r h size n j)
   unfolding putOf
@@ -128,13 +128,13 @@ digit-tab : (c : ℕ) → ltb (valueOf c) 16 ≡ true → eqb c 9 ≡ false
 unfolding valueOf
 digit-tab c q = ne-eqb c 9 (λ e. let l : valueOf 9 < 16 = subst (λ (x : ℕ). valueOf x < 16) e (ltb-true (valueOf c) 16 q) in omega arith)
 
-digits-tab : (v a : ℕ) (f h : List ℕ) → numberOf 16 v f ≡ Read.Number a → tabOf (f ++ (9 ∷ h)) ≡ length f
-unfolding numberOf tabOf
+digits-tab : (v a : ℕ) (f h : List ℕ) → digitsRead 16 v f ≡ Read.Number a → tabOf (f ++ (9 ∷ h)) ≡ length f
+unfolding digitsRead tabOf
 digits-tab v a [] h e = refl
 digits-tab v a (c ∷ f) h e = go (ltb (valueOf c) 16) refl e (digits-tab (v * 16 + valueOf c) a f h)
   where
-    go : (t : Bool) → ltb (valueOf c) 16 ≡ t → cond t (numberOf 16 (v * 16 + valueOf c) f) Read.Nothing ≡ Read.Number a
-        → (numberOf 16 (v * 16 + valueOf c) f ≡ Read.Number a → tabOf (f ++ (9 ∷ h)) ≡ length f)
+    go : (t : Bool) → ltb (valueOf c) 16 ≡ t → cond t (digitsRead 16 (v * 16 + valueOf c) f) Read.Nothing ≡ Read.Number a
+        → (digitsRead 16 (v * 16 + valueOf c) f ≡ Read.Number a → tabOf (f ++ (9 ∷ h)) ≡ length f)
         → cond (eqb c 9) 0 (suc (tabOf (f ++ (9 ∷ h)))) ≡ suc (length f)
     go true q z ih = rw (digit-tab c q) (ap suc (ih z))
     go false q z ih = let x : _≡_ {A = ℕ} 0 1 = cc in absurd (omega arith)
@@ -143,7 +143,7 @@ digits-tab v a (c ∷ f) h e = go (ltb (valueOf c) 16) refl e (digits-tab (v * 1
 address-tab : (a : ℕ) (f h : List ℕ) → addressOf f ≡ Read.Number a → tabOf (f ++ (9 ∷ h)) ≡ length f
 address-tab a f h e = go (eqb (length f) 8) e
   where
-    go : (t : Bool) → cond t (numberOf 16 0 f) Read.Nothing ≡ Read.Number a → tabOf (f ++ (9 ∷ h)) ≡ length f
+    go : (t : Bool) → cond t (digitsRead 16 0 f) Read.Nothing ≡ Read.Number a → tabOf (f ++ (9 ∷ h)) ≡ length f
     go true q = digits-tab 0 a f h q
     go false q = let x : _≡_ {A = ℕ} 0 1 = cc in absurd (omega arith)
 
@@ -162,8 +162,8 @@ module _ (a : ℕ) (f h : List ℕ) (e : addressOf f ≡ Read.Number a) where
   at-line size m k =
       ap₂ (λ (x y : List ℕ). putOf (addressOf x) y size m k) before-tab beyond-tab ∙ ap (λ (r : Read). putOf r h size m k) e
 
-bytes-length : (h : List ℕ) → length (bytesOf h) ≡ length h / 2
-unfolding bytesOf
+bytes-length : (h : List ℕ) → length (pairsOf h) ≡ length h / 2
+unfolding pairsOf
 bytes-length [] = refl
 bytes-length (c ∷ []) = refl
 bytes-length (c ∷ d ∷ h) = let e = bytes-length h in omega arith
@@ -231,8 +231,8 @@ module _ (x y : List ℕ) (a : AlikeInputs x y) where
   scripts : SameScript (marksOf x) (afterLines (linesOf [] x) begin) (afterLines (linesOf [] y) begin)
   scripts = lines-same (a .lines) (alike Phase.First blank 1 (record { long = refl; equal = λ i h. refl }))
 
-  pub answers-same : answerOf x ≡ answerOf y
-  unfolding answerOf
+  pub answers-same : textOf x ≡ textOf y
+  unfolding textOf
   answers-same = script-text scripts refl (isEnded (leftOf [] x)) ∙ ap (textBy (afterLines (linesOf [] y) begin)) (a .ended)
 
   pub marks-same : marksOf x ≡ marksOf y

@@ -8,9 +8,9 @@ use mathlib.Core.List.{List, [], _∷_, _++_}
 use native.Mathlib.Omega.{arith}
 use lib.ListN.{getD}
 use Rattle.word.specs.Bytes.{fill}
-use Rattle.text.specs.Digits.{valueOf, numberOf, areHex}
+use Rattle.text.specs.Digits.{valueOf, digitsRead, areHex}
 use Rattle.text.specs.Fields.{tabOf, sameOf}
-use Rattle.script.specs.Line.{blank, bytesOf, putOf, markFrom, countOf, markOf, firstOf, bodyOf, lineOf}
+use Rattle.script.specs.Line.{blank, pairsOf, putOf, markFrom, countOf, markOf, firstOf, bodyOf, lineOf}
 use Rattle.script.specs.Whole.{linesOf, leftOf, afterLines, begin}
 use Rattle.script.specs.declared.Phase.{Phase}
 use Rattle.calls.specs.Inputs.{same, bytes, none, more, marksOf, AlikeInputs}
@@ -31,8 +31,8 @@ pub other : List ℕ
 other = input "0badf00d"
 
 -- bytes 4 to 7 are marked, so their contents may differ
-marked : (i : ℕ) → getD (marksOf one) (4 + i) 0 ≡ 0 → getD (bytesOf (ascii "c0ffee42")) i 0 ≡ getD (bytesOf (ascii "0badf00d")) i 0
-unfolding linesOf afterLines blank firstOf bodyOf lineOf putOf markOf countOf markFrom bytesOf fill tabOf sameOf valueOf numberOf areHex one input ascii
+marked : (i : ℕ) → getD (marksOf one) (4 + i) 0 ≡ 0 → getD (pairsOf (ascii "c0ffee42")) i 0 ≡ getD (pairsOf (ascii "0badf00d")) i 0
+unfolding linesOf afterLines blank firstOf bodyOf lineOf putOf markOf countOf markFrom pairsOf fill tabOf sameOf valueOf digitsRead areHex one input ascii
 marked zero h = absurd (omega arith)
 marked (suc zero) h = absurd (omega arith)
 marked (suc (suc zero)) h = absurd (omega arith)
@@ -40,7 +40,7 @@ marked (suc (suc (suc zero))) h = absurd (omega arith)
 marked (suc (suc (suc (suc i)))) h = refl
 
 pub one-other : AlikeInputs one other
-unfolding linesOf leftOf valueOf numberOf areHex one other input ascii
+unfolding linesOf leftOf valueOf digitsRead areHex one other input ascii
 one-other =
     record {
       lines =
@@ -52,7 +52,7 @@ one-other =
 
 -- the lines are good: memory has 8 bytes, and one step is run
 pub good : afterLines (linesOf [] one) begin .told .phase ≡ Phase.Done 8 1
-unfolding linesOf afterLines blank firstOf bodyOf lineOf putOf markOf countOf markFrom tabOf sameOf valueOf numberOf areHex one input ascii
+unfolding linesOf afterLines blank firstOf bodyOf lineOf putOf markOf countOf markFrom tabOf sameOf valueOf digitsRead areHex one input ascii
 good = refl
 
 pub unequal : one ≡ other → ⊥

@@ -25,7 +25,7 @@ use Rattle.machine.specs.declared.State.{State}
 use Rattle.secrecy.specs.Same.{hide, SamePsw, SameMem, Same, SameFinal}
 use Rattle.secrecy.proofs.Theorems.{two-runs}
 use Rattle.abi.specs.Record.{each, controlAt, stateAt, bytes, laid, words, flags, zeros, sfrsOf, controlPart, recordOf, within, shaped, Bytes}
-use Rattle.abi.specs.Call.{answerOf, notRecord, called}
+use Rattle.abi.specs.Call.{replied, notRecord, called}
 use Rattle.abi.proofs.Laws.{length-bytes, length-laid, load-drop, load-bytes, load-one, each-map}
 use Rattle.abi.proofs.Parts.{build, readWords, readFlags, in-parts, flags-from, in-shape, two, three, from132, from92, from88, from80, from64, rests}
 use Rattle.abi.proofs.Sixteen.{Sixteen, sixteen-at, run-sixteen}
@@ -340,13 +340,13 @@ pub call-bytes : (r m k t : List ℕ) (b : ℕ) → Bytes r → Bytes (called r 
 unfolding called
 call-bytes r m k t b h = go (shaped r)
   where
-    go : (z : Bool) → Bytes (cond z (answerOf (runOf b t (stateAt r) m k)) (notRecord r m k) .state)
+    go : (z : Bool) → Bytes (cond z (replied (runOf b t (stateAt r) m k)) (notRecord r m k) .state)
     go true = record-bytes (runOf b t (stateAt r) m k .ended .state)
     go false = h
 
 -- ---- the call
 
-answer-same : (x y : Final) → SameFinal x y → Sixteen (x .ended .state) → SameAnswer (answerOf x) (answerOf y)
+answer-same : (x y : Final) → SameFinal x y → Sixteen (x .ended .state) → SameAnswer (replied x) (textOf y)
 answer-same x y s n =
     record {
       reply = ap numberOf (s .reply);
@@ -361,7 +361,7 @@ unfolding called
 call-same r q m n k t b s mem = rw (← shaped-same s) (go (shaped r) refl)
   where
     go : (z : Bool) → shaped r ≡ z
-        → SameAnswer (cond z (answerOf (runOf b t (stateAt r) m k)) (notRecord r m k)) (cond z (answerOf (runOf b t (stateAt q) n k)) (notRecord q n k))
+        → SameAnswer (cond z (replied (runOf b t (stateAt r) m k)) (notRecord r m k)) (cond z (textOf (runOf b t (stateAt q) n k)) (notRecord q n k))
     go true e =
         answer-same _ _ (two-runs b t (stateAt r) (stateAt q) m n k (state-same s (in-shape r e .long)) mem .0)
         (run-sixteen b t (stateAt r) m k (sixteen-at r))

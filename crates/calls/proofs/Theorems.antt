@@ -14,7 +14,7 @@ use Rattle.abi.proofs.Theorems.{Ensured}
 use Rattle.script.specs.Line.{blank}
 use Rattle.script.specs.Reader.{fed, startOf}
 use Rattle.script.specs.Answer.{answerBy, page, writeOn}
-use Rattle.script.specs.Whole.{answerOf, joined, feedAll}
+use Rattle.script.specs.Whole.{textOf, joined, feedAll}
 use Rattle.script.proofs.Theorems.{calls-answer}
 use Rattle.calls.specs.Records.{PswClause, SameRecord, SamePswBytes, SameAnswer, Call, answersOf, SameAnswers, none, more}
 use Rattle.calls.specs.Inputs.{marksOf, AlikeInputs}
@@ -70,7 +70,7 @@ pub call-leaves-bytes : (r m k t : List ℕ) (b : ℕ) → Bytes r → Bytes (ca
 call-leaves-bytes r m k t b h = call-bytes r m k t b h
 
 -- 6. Two inputs of the small program that differ only in the contents of bytes that they mark: it writes the same text for both.
-pub two-inputs : (x y : List ℕ) → AlikeInputs x y → answerOf x ≡ answerOf y
+pub two-inputs : (x y : List ℕ) → AlikeInputs x y → textOf x ≡ textOf y
 two-inputs x y a = answers-same x y a
 
 -- They mark the same bytes, so the relation is the same with the marks of either.
@@ -95,5 +95,5 @@ two-answers ps qs l h o out room n i a p q e f =
     ∙ sym (calls-answer qs h o room i q f)
 
 -- 8. There are such inputs: one-other of proofs/Instance.antt has two good ones, unequal in a marked word that the program loads.
-pub one-as-other : answerOf one ≡ answerOf other
+pub one-as-other : textOf one ≡ textOf other
 one-as-other = two-inputs one other one-other

@@ -7,7 +7,7 @@ use mathlib.Core.List.{List, [], _∷_, _++_}
 use lib.ListN.{length, getD}
 use Rattle.text.specs.Digits.{addressOf}
 use Rattle.text.specs.declared.Read.{Read}
-use Rattle.script.specs.Line.{wordAt, areBytes, bytesOf}
+use Rattle.script.specs.Line.{wordAt, areBytes, pairsOf}
 use Rattle.script.specs.Whole.{linesOf, leftOf, afterLines, begin, isEnded}
 
 -- `at`, an address and bytes, as they are written
@@ -19,7 +19,7 @@ atLine f h = wordAt ++ (9 ∷ (f ++ (9 ∷ h)))
 pub data AlikeLine (k : List ℕ) : List ℕ → List ℕ → Type 0 where
   same : (l : List ℕ) → AlikeLine k l l
   bytes : (a : ℕ) (f g h : List ℕ) → addressOf f ≡ Read.Number a → areBytes g ≡ true → areBytes h ≡ true → length g ≡ length h
-      → ((i : ℕ) → getD k (a + i) 0 ≡ 0 → getD (bytesOf g) i 0 ≡ getD (bytesOf h) i 0)
+      → ((i : ℕ) → getD k (a + i) 0 ≡ 0 → getD (pairsOf g) i 0 ≡ getD (pairsOf h) i 0)
       → AlikeLine k (atLine f g) (atLine f h)
 
 -- line by line

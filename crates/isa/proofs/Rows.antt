@@ -9,7 +9,7 @@ use native.Mathlib.Nat.{not-suc-le-zero}
 use lib.Dec.{eqb}
 use lib.ListN.{length, List·getD-eq-default}
 use borrow.Author.Tests.{eqb-true, eqb-false}
-use Rattle.isa.specs.Codes.{at}
+use Rattle.isa.specs.Codes.{kindIn}
 use Rattle.isa.specs.declared.Kind.{Kind}
 
 pub and-left : (a b : Bool) → (a && b) ≡ true → a ≡ true
@@ -38,7 +38,7 @@ each-at f (suc n) k e h = go (eqb k n) refl (each-at f n k (and-right (f n) (eac
     go false p r = let q = eqb-false k n p in r (omega (arith, q))
 
 -- past its end a row has nothing
-pub past : (row : List Kind) (b : ℕ) → length row ≤ b → Kind.Nothing ≡ at row b
+pub past : (row : List Kind) (b : ℕ) → length row ≤ b → Kind.Nothing ≡ kindIn row b
 past row b h = sym (List·getD-eq-default row Kind.Nothing h)
 
 -- b is none of the n first numbers, as a match that names them all leaves it; so it is not below n

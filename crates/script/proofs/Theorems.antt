@@ -20,7 +20,7 @@ use Rattle.script.specs.Line.{blank}
 use Rattle.script.specs.Reader.{Fed, fed, startOf, byteOf, feedOf}
 use Rattle.script.specs.Answer.{answerBy, Page, page, writeOn, pcText, registerText, registersText, stateText, endedText}
 use Rattle.cpu.specs.Control.{withSfr}
-use Rattle.script.specs.Whole.{answerOf, joined, feedAll}
+use Rattle.script.specs.Whole.{textOf, joined, feedAll}
 use Rattle.script.specs.declared.Reader.{Reader}
 use Rattle.script.proofs.Whole.{fed-whole}
 use Rattle.script.proofs.Fits.{answer-fits}
@@ -40,7 +40,7 @@ feed-parts (p ∷ ps) s = feed-parts ps (feedOf p s) ∙ sym (feed-append p (joi
 -- Whatever the parts and the bytes in the room for a line: the answer is that of the whole input.
 pub answer-is-whole : (ps : List (List ℕ)) (l : List ℕ) → length l ≡ 45
     → answerBy (feedAll ps (fed startOf l blank blank) .reader) (feedAll ps (fed startOf l blank blank) .mem) (feedAll ps (fed startOf l blank blank) .marks) .text
-    ≡ answerOf (joined ps)
+    ≡ textOf (joined ps)
 answer-is-whole ps l h =
     ap (λ (s : Fed). answerBy (s .reader) (s .mem) (s .marks) .text) (feed-parts ps (fed startOf l blank blank)) ∙ fed-whole (joined ps) l h
 
@@ -99,7 +99,7 @@ pub calls-answer : (ps : List (List ℕ)) (l o out : List ℕ) (n : ℕ) → len
     ≡ writeOn
     (answerBy (feedAll ps (fed startOf l blank blank) .reader) (feedAll ps (fed startOf l blank blank) .mem) (feedAll ps (fed startOf l blank blank) .marks) .text)
     (page o 0)
-    → page out n ≡ page (sets o 0 (answerOf (joined ps))) (length (answerOf (joined ps)))
+    → page out n ≡ page (sets o 0 (textOf (joined ps))) (length (textOf (joined ps)))
 calls-answer ps l o out n h e =
     e
     ∙ written _ o (fits (feedAll ps (fed startOf l blank blank) .reader) (feedAll ps (fed startOf l blank blank) .mem) (feedAll ps (fed startOf l blank blank) .marks))

@@ -9,7 +9,7 @@ ghost use lib.Seq.{sets};
 ghost use Rattle.text.specs.Digits.{hexText, decimalText};
 ghost use Rattle.machine.specs.State.{freshState};
 ghost use Rattle.machine.specs.Run.{runOf};
-ghost use Rattle.script.specs.Line.{blank, sizeOf, budgetOf, isEven, areBytes, bytesOf, putOf, markFrom, countOf, markOf, firstOf, bodyOf, lineOf, nextNumber, numberAfter};
+ghost use Rattle.script.specs.Line.{blank, sizeOf, budgetOf, isEven, areBytes, pairsOf, putOf, markFrom, countOf, markOf, firstOf, bodyOf, lineOf, nextNumber, numberAfter};
 ghost use Rattle.script.specs.Reader.{fed, startOf, keptBy, keptIn, readerAfter, toldBy, byteOf, feedOf};
 ghost use Rattle.script.specs.Answer.{badText, endText, pcText, registerLine, registerText, registersText, stateText, endedText, ranOf, ranText, answerBy, page, oneOn, writeOn};
 use machine::Ended;
@@ -125,7 +125,7 @@ fn put_byte(m: &mut [u8], at: usize, b: u8)
 }
 
 fn put_bytes(a: u32, h: &[u8], m: &mut [u8])
-    ensures { λ _. ⌜ now (m .exit) ≡ sets (now (m .entry)) a (bytesOf (now (h .entry))) ⌝ }
+    ensures { λ _. ⌜ now (m .exit) ≡ sets (now (m .entry)) a (pairsOf (now (h .entry))) ⌝ }
 {
     let from = a as usize;
     let n = h.len() / 2;

@@ -1,6 +1,6 @@
 use borrow.Author.Needs.{needs}
 use Rattle.script.proofs.Laws.{put-start, put-more, put-none}
-use Rattle.script.specs.Line.{bytesOf}
+use Rattle.script.specs.Line.{pairsOf}
 use lib.Seq.{sets}
 use lib.ListN.{length, drop, length-set}
 use mathlib.Core.Path.{_≡_, refl, sym, _∙_}
@@ -10,7 +10,7 @@ use Rattle.script.proofs.put_bytes.Statement.{statement}
 use Rattle.script.proofs.put_bytes.Tie as tie
 
 abbrev Inv-loop : tie.InvT-loop
-Inv-loop a h m₀ from n i₀ m i = (i ≤ length h / 2) × (length m ≡ length m₀) × (sets m (a + i) (bytesOf (drop (2 * i) h)) ≡ sets m₀ a (bytesOf h))
+Inv-loop a h m₀ from n i₀ m i = (i ≤ length h / 2) × (length m ≡ length m₀) × (sets m (a + i) (pairsOf (drop (2 * i) h)) ≡ sets m₀ a (pairsOf h))
 
 abbrev μ-loop : tie.MeasureT-loop
 μ-loop a h m₀ from n i₀ m i = length h / 2 - i
