@@ -70,7 +70,8 @@ fn control_at(r: &[u8]) -> Control
     }
 }
 
-fn state_at(r: &[u8]) -> State
+// The state that a record holds.
+pub fn state_at(r: &[u8]) -> State
     ensures { λ s. ⌜ s ≡ stateAt (now (r .entry)) ⌝ }
 {
     State {

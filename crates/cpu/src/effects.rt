@@ -39,7 +39,7 @@ pub fn jump_by(d: HalfDisp, c: Control) -> Control
     with_pc(c, word::jump_sum(ByteAddr(c.pc), d))
 }
 
-fn is_wanted(t: bool, c: Control) -> bool
+pub fn is_wanted(t: bool, c: Control) -> bool
     ensures { λ r. ⌜ r ≡ wants t c ⌝ }
 {
     word::same(word::is_on(c.psw, 8), t)
@@ -90,11 +90,11 @@ pub fn set_tf(t: bool, c: Control) -> Effect
     move_to(go_on(2, with_psw(c, word::with_bit(c.psw, 8, t))))
 }
 
-// A register that takes a value if TF says what is wanted, and else keeps its own.
-pub fn set_if(t: bool, d: u32, v: u32, x: u32, c: Control) -> Effect
-    ensures { λ r. ⌜ r ≡ putsReg d (cond (wants t c) v x) c ⌝ }
+// A register that takes a value if that is wanted, and else keeps its own.
+pub fn set_if(wanted: bool, d: u32, v: u32, x: u32, c: Control) -> Effect
+    ensures { λ r. ⌜ r ≡ putsReg d (cond wanted v x) c ⌝ }
 {
-    if is_wanted(t, c) {
+    if wanted {
         set_reg(d, v, c)
     } else {
         set_reg(d, x, c)

@@ -6,6 +6,7 @@ mod places;
 mod system;
 mod values;
 
+pub use effects::is_wanted;
 pub use entries::enter;
 pub use entries::fall;
 pub use entries::has_break;

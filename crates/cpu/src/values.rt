@@ -2,10 +2,12 @@
 ghost use mathlib.Core.Path.{_≡_};
 ghost use Rattle.word.specs.declared.Width.{Width};
 ghost use Rattle.isa.specs.declared.Instr.{Instr};
-ghost use Rattle.cpu.specs.Exec.{exec};
+ghost use mathlib.Core.Bool.{cond};
+ghost use Rattle.cpu.specs.Exec.{condOf, putsReg, exec};
 use crate::Control;
 use crate::Effect;
 use crate::effects::go_on;
+use crate::effects::is_wanted;
 use crate::effects::minus;
 use crate::effects::move_to;
 use crate::effects::plus;
@@ -76,20 +78,21 @@ pub fn compare_imm(op: CmpImmOp, n: u32, x: u32, c: Control) -> Effect
     }
 }
 
-pub fn conditional(op: CondOp, t: bool, d: u32, x: u32, y: u32, c: Control) -> Effect
-    ensures { λ r. ⌜ r ≡ exec (Instr.Cond op t d 0) x y 0 c ⌝ }
+// Whether TF says what the instruction wants is asked once, for the value and for its mark.
+pub fn conditional(op: CondOp, wanted: bool, d: u32, x: u32, y: u32, c: Control) -> Effect
+    ensures { λ r. ⌜ r ≡ putsReg d (cond wanted (condOf op x y) x) c ⌝ }
 {
     match op {
-        CondOp::Mov => set_if(t, d, y, x, c),
-        CondOp::Sub => set_if(t, d, minus(x, y), x, c),
-        CondOp::Add => set_if(t, d, plus(x, y), x, c),
+        CondOp::Mov => set_if(wanted, d, y, x, c),
+        CondOp::Sub => set_if(wanted, d, minus(x, y), x, c),
+        CondOp::Add => set_if(wanted, d, plus(x, y), x, c),
     }
 }
 
 pub fn conditional_imm(t: bool, d: u32, n: u32, x: u32, c: Control) -> Effect
     ensures { λ r. ⌜ r ≡ exec (Instr.CondImm t d n) x 0 0 c ⌝ }
 {
-    set_if(t, d, plus(x, n), x, c)
+    set_if(is_wanted(t, c), d, plus(x, n), x, c)
 }
 
 pub fn immediate(op: ImmOp, d: u32, n: u32, x: u32, c: Control) -> Effect

@@ -168,9 +168,9 @@ fn conditional_on(
 ) -> Act
     ensures { λ r. ⌜ r ≡ Act.Does (exec (Instr.Cond op t d 0) u v 0 c) (taint (Instr.Cond op t 0 0) mu mv false (on (c .psw) 8) (flags tf cy)) Reach.Nowhere ⌝ }
 {
-    let e = cpu::conditional(op, t, d, u, v, c);
-    let state = word::is_on(c.psw, 8);
-    does(e, marks::mark_conditional(op, t, state, mu, mv, tf, cy))
+    let wanted = cpu::is_wanted(t, c);
+    let e = cpu::conditional(op, wanted, d, u, v, c);
+    does(e, marks::mark_conditional(op, wanted, mu, mv, tf, cy))
 }
 
 pub fn act_on(

@@ -44,9 +44,10 @@ fn short_if(t: bool, i: Instr) -> Decoded
 pub fn operands(k: Kind, first: u16, second: u16) -> Decoded
     ensures { λ r. ⌜ r ≡ operandsOf k first second ⌝ }
 {
-    let b = (first / 256 % 16) as u32;
-    let c = (first / 16 % 16) as u32;
-    let d = (first % 16) as u32;
+    let h = first as u32;
+    let b = h / 256 % 16;
+    let c = h / 16 % 16;
+    let d = h % 16;
     match k {
         Kind::Nothing => Decoded::Nothing,
         Kind::Alu(op) => Decoded::Short(Instr::Alu(op, c, d)),

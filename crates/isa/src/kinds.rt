@@ -1,5 +1,8 @@
 // The kind that a first byte says.
 ghost use mathlib.Core.Path.{_≡_};
+ghost use mathlib.Core.Bool.{cond};
+ghost use Prim.Native.Nat.{_-_};
+ghost use lib.Dec.{ltb};
 ghost use Rattle.isa.specs.Codes.{kindIn, shiftRow, systemRow, aluRow, testRow, fixedRow, jumpRow, kindOf};
 use crate::AluOp;
 use crate::CmpImmOp;
@@ -60,10 +63,11 @@ fn system_kind(b: u8) -> Kind
     }
 }
 
-fn alu_kind(b: u8) -> Kind
-    ensures { λ r. ⌜ r ≡ kindIn aluRow b ⌝ }
+// Rows 0x2? and 0x3?: one match, so that the compiler makes one jump table of both.
+fn upper_kind(k: u8) -> Kind
+    ensures { λ r. ⌜ r ≡ cond (ltb k 16) (kindIn aluRow k) (kindIn testRow (k - 16)) ⌝ }
 {
-    match b {
+    match k {
         0 => Kind::Alu(AluOp::Sub),
         1 => Kind::Alu(AluOp::Add),
         2 => Kind::Alu(AluOp::Subc),
@@ -80,30 +84,22 @@ fn alu_kind(b: u8) -> Kind
         13 => Kind::Alu(AluOp::Lsr),
         14 => Kind::Alu(AluOp::Asr),
         15 => Kind::Alu(AluOp::Mult),
-        _ => Kind::Nothing,
-    }
-}
-
-fn test_kind(b: u8) -> Kind
-    ensures { λ r. ⌜ r ≡ kindIn testRow b ⌝ }
-{
-    match b {
-        0 => Kind::CmpImm(CmpImmOp::Eq),
-        1 => Kind::Cmp(CmpOp::Eq),
-        2 => Kind::Cmp(CmpOp::Hs),
-        3 => Kind::Cmp(CmpOp::Ls),
-        4 => Kind::Cmp(CmpOp::Lt),
-        5 => Kind::Cmp(CmpOp::Gt),
-        6 => Kind::CmpImm(CmpImmOp::Lt),
-        7 => Kind::CmpImm(CmpImmOp::Gt),
-        8 => Kind::Cond(CondOp::Mov, false),
-        9 => Kind::Cond(CondOp::Sub, false),
-        10 => Kind::CondImm(false),
-        11 => Kind::Cond(CondOp::Add, false),
-        12 => Kind::Cond(CondOp::Mov, true),
-        13 => Kind::Cond(CondOp::Sub, true),
-        14 => Kind::CondImm(true),
-        15 => Kind::Cond(CondOp::Add, true),
+        16 => Kind::CmpImm(CmpImmOp::Eq),
+        17 => Kind::Cmp(CmpOp::Eq),
+        18 => Kind::Cmp(CmpOp::Hs),
+        19 => Kind::Cmp(CmpOp::Ls),
+        20 => Kind::Cmp(CmpOp::Lt),
+        21 => Kind::Cmp(CmpOp::Gt),
+        22 => Kind::CmpImm(CmpImmOp::Lt),
+        23 => Kind::CmpImm(CmpImmOp::Gt),
+        24 => Kind::Cond(CondOp::Mov, false),
+        25 => Kind::Cond(CondOp::Sub, false),
+        26 => Kind::CondImm(false),
+        27 => Kind::Cond(CondOp::Add, false),
+        28 => Kind::Cond(CondOp::Mov, true),
+        29 => Kind::Cond(CondOp::Sub, true),
+        30 => Kind::CondImm(true),
+        31 => Kind::Cond(CondOp::Add, true),
         _ => Kind::Nothing,
     }
 }
@@ -154,11 +150,7 @@ pub fn kind_of(byte: u8) -> Kind
                 system_kind(byte % 16)
             }
         } else {
-            if byte < 48 {
-                alu_kind(byte % 16)
-            } else {
-                test_kind(byte % 16)
-            }
+            upper_kind(byte - 32)
         }
     } else {
         if byte < 224 {

@@ -1,6 +1,6 @@
 // Marks: which operands stop an instruction, which results become marked, and the marks of memory.
 ghost use mathlib.Core.Path.{_≡_};
-ghost use mathlib.Core.Bool.{false, _||_};
+ghost use mathlib.Core.Bool.{false, cond, _||_};
 ghost use Rattle.isa.specs.declared.Instr.{Instr};
 ghost use Rattle.word.specs.Bits.{num};
 ghost use Rattle.marks.specs.Marks.{aluMark, aluFlags, condMark, immMark, sfrMark, with, taint, shortBlocked, longBlocked};
@@ -97,20 +97,12 @@ fn cond_sources(op: CondOp, mx: bool, my: bool) -> bool
     }
 }
 
-// s is TF, t what the instruction wants of it.
-pub fn mark_conditional(
-    op: CondOp,
-    t: bool,
-    s: bool,
-    mx: bool,
-    my: bool,
-    tf: bool,
-    cy: bool,
-) -> Taint
-    ensures { λ r. ⌜ r ≡ taint (Instr.Cond op t 0 0) mx my false s (record { tf = tf; cy = cy }) ⌝ }
+// wanted: TF says what the instruction wants.
+pub fn mark_conditional(op: CondOp, wanted: bool, mx: bool, my: bool, tf: bool, cy: bool) -> Taint
+    ensures { λ r. ⌜ r ≡ with (tf || cond wanted (condMark op mx my) mx) (record { tf = tf; cy = cy }) ⌝ }
 {
     let sources = cond_sources(op, mx, my);
-    if word::same(s, t) {
+    if wanted {
         return mark_reg(word::either(tf, sources), tf, cy);
     }
     mark_reg(word::either(tf, mx), tf, cy)

@@ -113,6 +113,10 @@ sign z h = go (leb (2 ^ 31) z) refl
         let b : z / 2 ^ 31 % 2 ^ 1 ≡ 0 = omega arith in
         rw b
 
+-- the sign of the difference alone is not the order: it errs where the difference overflows
+pub sign-alone-errs : lessOf 0x80000000 0x7fffffff ≡ not (negativeOf 0x80000000 0x7fffffff)
+sign-alone-errs = refl
+
 -- the signed order is the sign of the difference, turned round where the subtraction overflows
 pub less-by-flags : (x y : ℕ) → x < 2 ^ 32 → y < 2 ^ 32 → lessOf x y ≡ xor (negativeOf x y) (overflowOf x y)
 unfolding xor

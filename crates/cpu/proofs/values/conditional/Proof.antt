@@ -1,5 +1,4 @@
 use Rattle.cpu.specs.Exec.{condOf}
-use Rattle.cpu.specs.Exec.{exec}
 use borrow.Author.Needs.{needs}
 use Rattle.cpu.proofs.values.conditional.Statement.{statement}
 use Rattle.cpu.proofs.values.conditional.Tie as tie
@@ -29,15 +28,15 @@ set-if-requires-3 : tie.Need-set-if-requires-3
 set-if-requires-3 c κs = search needs
 
 returns : tie.Need-returns
-unfolding exec condOf
+unfolding condOf
 returns c = rw (c .set-if .ensures, c .before .enum-told .given .1)
 
 returns-2 : tie.Need-returns-2
-unfolding exec condOf
+unfolding condOf
 returns-2 c = rw (c .set-if2 .ensures, c .before .minus .ensures, c .before .before .enum-told2 .given .1)
 
 returns-3 : tie.Need-returns-3
-unfolding exec condOf
+unfolding condOf
 returns-3 c = rw (c .set-if3 .ensures, c .before .plus .ensures, c .before .before .enum-told3 .given .1)
 
 pub conditional-spec : {M : Type 1} → statement M

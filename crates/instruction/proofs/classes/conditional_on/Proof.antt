@@ -1,12 +1,21 @@
+use Rattle.cpu.specs.Exec.{exec}
+use Rattle.marks.specs.Marks.{taint}
+use borrow.Author.Tests.{lt-ltb, le-ltb, le-leb, lt-leb, eq-eqb, ne-eqb}
 use borrow.Author.Needs.{needs}
 use Rattle.instruction.proofs.classes.conditional_on.Statement.{statement}
 use Rattle.instruction.proofs.classes.conditional_on.Tie as tie
+use Rattle.instruction.proofs.classes.conditional_on.Reads as reads
+use Rattle.instruction.proofs.classes.conditional_on.Lts as lts
+use Rattle.cpu.proofs.is_wanted.Reads as is-wanted-reads
+use Rattle.cpu.proofs.conditional.Reads as conditional-reads
+use Rattle.instruction.proofs.classes.does.Reads as does-reads
+use Rattle.marks.proofs.mark_conditional.Reads as mark-conditional-reads
+
+is-wanted-requires : tie.Need-is-wanted-requires
+is-wanted-requires c κs = search needs
 
 conditional-requires : tie.Need-conditional-requires
 conditional-requires c κs = search needs
-
-is-on-requires : tie.Need-is-on-requires
-is-on-requires c κs = search needs
 
 mark-conditional-requires : tie.Need-mark-conditional-requires
 mark-conditional-requires c κs = search needs
@@ -15,9 +24,15 @@ does-requires : tie.Need-does-requires
 does-requires c κs = search needs
 
 returns : tie.Need-returns
-returns c = rw (c .does .ensures, c .before .mark-conditional .ensures, c .before .before .is-on .ensures, c .before .before .before .conditional .ensures)
+unfolding taint exec
+returns c = rw (c .does .ensures, c .before .mark-conditional .ensures, c .before .before .conditional .ensures, c .before .before .before .is-wanted .ensures)
 
 pub conditional-on-spec : {M : Type 1} → statement M
 conditional-on-spec =
     tie.close
-    (tie.spec conditional-requires is-on-requires mark-conditional-requires does-requires returns)
+    (tie.spec
+    is-wanted-requires
+    conditional-requires
+    mark-conditional-requires
+    does-requires
+    returns)

@@ -3,15 +3,6 @@ use borrow.Author.Needs.{needs}
 use Rattle.isa.proofs.decoder.operands.Statement.{statement}
 use Rattle.isa.proofs.decoder.operands.Tie as tie
 
-cast-b : tie.Need-cast-b
-cast-b c = search needs
-
-cast-c : tie.Need-cast-c
-cast-c c = search needs
-
-cast-d : tie.Need-cast-d
-cast-d c = search needs
-
 enum-told : tie.Need-enum-told
 enum-told c = search needs
 
@@ -197,9 +188,6 @@ pub operands-spec : {M : Type 1} → statement M
 operands-spec =
     tie.close
     (tie.spec
-    cast-b
-    cast-c
-    cast-d
     enum-told
     enum-known-k
     enum-known-k-2

@@ -1,6 +1,7 @@
 use native.Mathlib.Omega.{arith}
 use Prim.Native.Nat.{_/_}
 use mathlib.Core.Path.{_≡_}
+use Rattle.isa.proofs.Rows.{upper}
 use borrow.Author.Tests.{lt-ltb, le-ltb}
 use Rattle.isa.specs.Codes.{kindOf}
 use borrow.Author.Needs.{needs}
@@ -13,11 +14,8 @@ shift-kind-requires c κs = search needs
 system-kind-requires : tie.Need-system-kind-requires
 system-kind-requires c κs = search needs
 
-alu-kind-requires : tie.Need-alu-kind-requires
-alu-kind-requires c κs = search needs
-
-test-kind-requires : tie.Need-test-kind-requires
-test-kind-requires c κs = search needs
+upper-kind-requires : tie.Need-upper-kind-requires
+upper-kind-requires c κs = search needs
 
 sub-fixed-kind : tie.Need-sub-fixed-kind
 sub-fixed-kind c = search needs
@@ -46,22 +44,15 @@ returns-2 c =
 returns-3 : tie.Need-returns-3
 unfolding kindOf
 returns-3 c =
-    let e : c .before .before .before .before .args .byte / 16 ≡ 2 = omega arith in
-    rw (c .alu-kind .ensures, lt-ltb _ _ (c .before .before .before .if1 .taken), e)
+    rw (c .upper-kind .ensures, lt-ltb _ _ (c .before .before .if1 .taken)) (upper (c .before .before .before .args .byte) (c .before .if2 .left) (c .before .before .if1 .taken))
 
 returns-4 : tie.Need-returns-4
 unfolding kindOf
-returns-4 c =
-    let e : c .before .before .before .before .args .byte / 16 ≡ 3 = omega arith in
-    rw (c .test-kind .ensures, lt-ltb _ _ (c .before .before .before .if1 .taken), e)
+returns-4 c = rw (c .fixed-kind .ensures, lt-ltb _ _ (c .before .if4 .taken), le-ltb _ _ (c .before .before .if1 .left))
 
 returns-5 : tie.Need-returns-5
 unfolding kindOf
-returns-5 c = rw (c .fixed-kind .ensures, lt-ltb _ _ (c .before .if5 .taken), le-ltb _ _ (c .before .before .if1 .left))
-
-returns-6 : tie.Need-returns-6
-unfolding kindOf
-returns-6 c = rw (c .jump-kind .ensures, le-ltb _ _ (c .before .if5 .left), le-ltb _ _ (c .before .before .if1 .left))
+returns-5 c = rw (c .jump-kind .ensures, le-ltb _ _ (c .before .if4 .left), le-ltb _ _ (c .before .before .if1 .left))
 
 pub kind-of-spec : {M : Type 1} → statement M
 kind-of-spec =
@@ -69,8 +60,7 @@ kind-of-spec =
     (tie.spec
     shift-kind-requires
     system-kind-requires
-    alu-kind-requires
-    test-kind-requires
+    upper-kind-requires
     sub-fixed-kind
     fixed-kind-requires
     sub-jump-kind
@@ -79,5 +69,4 @@ kind-of-spec =
     returns-2
     returns-3
     returns-4
-    returns-5
-    returns-6)
+    returns-5)
