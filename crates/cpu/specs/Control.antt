@@ -57,9 +57,6 @@ withSfr n c x = record {
 abbrev pub withPsw : Control → ℕ → Control
 withPsw c x = withSfr 0 c x
 
-abbrev pub withRa : Control → ℕ → Control
-withRa c x = withSfr 1 c x
-
 abbrev pub withIpc : Control → ℕ → Control
 withIpc c x = withSfr 2 c x
 

@@ -20,7 +20,7 @@ use Rattle.isa.specs.declared.ImmOp.{ImmOp}
 use Rattle.isa.specs.declared.ShortOp.{ShortOp}
 use Rattle.isa.specs.declared.LongOp.{LongOp}
 use Rattle.isa.specs.declared.Instr.{Instr}
-use Rattle.cpu.specs.Control.{pcOf, withPc, withSfr, withPsw, withRa, withHwdbg, withTimer, tf, cy, withTf, withCy, sfrOf}
+use Rattle.cpu.specs.Control.{pcOf, withPc, withSfr, withPsw, withHwdbg, withTimer, tf, cy, withTf, withCy, sfrOf}
 use Rattle.cpu.specs.declared.Control.{Control}
 use Rattle.cpu.specs.declared.Effect.{Effect}
 use Rattle.cpu.specs.declared.Sources.{Sources}
@@ -37,7 +37,7 @@ goTo a c = withPc c (alignedOf Width.Half (record { 0 = a }))
 
 -- "jl and jrl set RA to the program counter + 4"
 unfoldable pub linked : Control → Control
-linked c = withRa c (byteSum (pcOf c) 4 .0)
+linked c = withSfr 1 c (byteSum (pcOf c) 4 .0)
 
 -- "the base is the jump's .. own address"
 unfoldable pub jump : HalfDisp → Control → Control

@@ -1,6 +1,6 @@
 // The control part, and the ways to change one place of it.
 ghost use mathlib.Core.Path.{_≡_};
-ghost use Rattle.cpu.specs.Control.{freshControl, withPc, withSfr, withPsw, withRa, withIpc, withHwdbg, withPending, withTimer, sfrOf};
+ghost use Rattle.cpu.specs.Control.{freshControl, withPc, withSfr, withPsw, withIpc, withHwdbg, withPending, withTimer, sfrOf};
 use crate::Control;
 use word::ByteAddr;
 
@@ -37,7 +37,7 @@ pub fn with_psw(c: Control, psw: u32) -> Control
 }
 
 pub fn with_ra(c: Control, ra: u32) -> Control
-    ensures { λ r. ⌜ r ≡ withRa c ra ⌝ }
+    ensures { λ r. ⌜ r ≡ withSfr 1 c ra ⌝ }
 {
     Control { ra, ..c }
 }
@@ -63,7 +63,11 @@ pub fn with_pending(c: Control, pending: bool) -> Control
 pub fn with_timer(c: Control, timer: u32, pending: bool) -> Control
     ensures { λ r. ⌜ r ≡ withTimer c timer pending ⌝ }
 {
-    Control { timer, pending, ..c }
+    Control {
+        timer,
+        pending,
+        ..c
+    }
 }
 
 pub fn with_sfr(n: u32, c: Control, x: u32) -> Control

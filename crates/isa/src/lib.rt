@@ -1,13 +1,12 @@
 // The instruction set: instructions by value, the decoder and the encoder.
-mod kinds;
 mod decoder;
 mod encoder;
+mod kinds;
 
-pub use kinds::kind_of;
 pub use decoder::decode;
 pub use decoder::operands;
 pub use encoder::encode;
-
+pub use kinds::kind_of;
 use word::HalfDisp;
 use word::Width;
 

@@ -17,13 +17,13 @@ use Rattle.machine.specs.State.{outOfForm}
 use Rattle.machine.specs.Step.{Stepped, stopped, completed, stepOf}
 use Rattle.machine.specs.Run.{final, goOn, stepsOf, judge, runOf}
 use Rattle.machine.specs.Trace.{traceOf, shownOf}
-use Rattle.machine.specs.Parts.{seenIn}
+use Rattle.trace.specs.Seen.{seenIn}
 use Rattle.machine.specs.declared.State.{State}
 use Rattle.machine.specs.declared.Judged.{Judged}
 use Rattle.machine.specs.declared.Ended.{Ended}
 use Rattle.machine.specs.declared.Done.{Done}
 use Rattle.machine.specs.declared.Line.{Line}
-use Rattle.machine.specs.declared.Seen.{Seen}
+use Rattle.trace.specs.declared.Seen.{Seen}
 use Rattle.laws.specs.Form.{Form}
 use Rattle.laws.specs.Cut.{resume}
 use Rattle.laws.specs.Shows.{Shows, Bits, ChangedAt}

@@ -34,12 +34,12 @@ use Rattle.machine.specs.State.{valueAt}
 use Rattle.machine.specs.Step.{Stepped, stopped, completed, chosen, storedTo, dataOf, entryDone, doneOf, lineOf, actStep, instrStep, fetchStep, eventStep, stepOf, after}
 use Rattle.machine.specs.Run.{Final, goOn, stepsOf, judge, judged, runOf}
 use Rattle.machine.specs.Trace.{traceOn, traceOf, shown, shownOf}
-use Rattle.machine.specs.Parts.{seenIn}
+use Rattle.trace.specs.Seen.{seenIn}
 use Rattle.machine.specs.declared.State.{State}
 use Rattle.machine.specs.declared.Event.{Event}
 use Rattle.machine.specs.declared.Judged.{Judged}
 use Rattle.machine.specs.declared.Line.{Line}
-use Rattle.machine.specs.declared.Seen.{Seen}
+use Rattle.trace.specs.declared.Seen.{Seen}
 use Rattle.laws.specs.Shows.{Shows, Entered, Bits, ChangedAt}
 
 -- ---- one step and its line

@@ -2,7 +2,7 @@
 -- Assumes nothing.
 use Prim.Native.Nat.{ℕ}
 use mathlib.Core.Path.{_≡_, refl}
-use mathlib.Core.List.{List, map}
+use mathlib.Core.List.{map}
 use native.Mathlib.Nat.{div-one}
 use Rattle.word.specs.Bits.{put}
 use Rattle.isa.specs.Codes.{kindOf}
@@ -10,7 +10,7 @@ use Rattle.isa.specs.Decode.{operandsOf, decodeOf}
 use Rattle.cpu.specs.Control.{withPc, withSfr}
 use Rattle.cpu.specs.Exec.{onward, linked, jump, branch, aluOf, carried, cmpOf, exec, dataAddress}
 use Rattle.instruction.specs.Act.{reachOf}
-use Rattle.lines.specs.Lines.{Line, Side, lines, sixteen}
+use Rattle.lines.specs.Lines.{Line, lines, sixteen}
 
 -- There are sixteen lines, numbered 1 to 16, and each gives what the document says.
 pub sixteen-lines : (x : ℕ)

@@ -4,7 +4,6 @@
 use Prim.Native.Nat.{ℕ, _-_, _^_}
 use mathlib.Core.Bool.{Bool, true, false}
 use mathlib.Core.List.{List, [], _∷_}
-use Rattle.word.specs.Bits.{withBit}
 use Rattle.word.specs.declared.ByteAddr.{ByteAddr}
 use Rattle.word.specs.declared.HalfDisp.{HalfDisp}
 use Rattle.word.specs.declared.Width.{Width}
@@ -16,7 +15,7 @@ use Rattle.isa.specs.declared.ShortOp.{ShortOp}
 use Rattle.isa.specs.declared.LongOp.{LongOp}
 use Rattle.isa.specs.declared.Instr.{Instr}
 use Rattle.isa.specs.declared.Decoded.{Decoded}
-use Rattle.cpu.specs.Control.{freshControl, pcOf, withPc, withPsw, withTf, withCy, cy}
+use Rattle.cpu.specs.Control.{freshControl, pcOf, withPc, withTf, withCy, cy}
 use Rattle.cpu.specs.Exec.{aluOf, carried, cmpOf, exec}
 use Rattle.cpu.specs.declared.Control.{Control}
 use Rattle.instruction.specs.Act.{reachOf}

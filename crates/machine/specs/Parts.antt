@@ -18,12 +18,11 @@ use Rattle.machine.specs.declared.State.{State}
 use Rattle.machine.specs.declared.Event.{Event}
 use Rattle.machine.specs.declared.Begun.{Begun}
 use Rattle.machine.specs.declared.Out.{Out}
-use Rattle.machine.specs.declared.Seen.{Seen}
 
 abbrev pub stateOf : List ℕ → List Bool → Flags → Control → State
 stateOf regs marks f c = record { regs = regs; marks = marks; flags = f; control = c }
 
--- ---- a step's parts: what it answers, the memory and the marks after it, m and k where it stops, and its line
+-- ---- a step's parts: what it answers, and the memory and the marks after it, m and k where it stops
 
 abbrev pub outIn : Stepped → Out
 outIn (stopped r) = Out.Stop r
@@ -36,10 +35,6 @@ memIn m (completed d l j x) = l
 abbrev pub marksIn : List ℕ → Stepped → List ℕ
 marksIn k (stopped r) = k
 marksIn k (completed d l j x) = j
-
-abbrev pub seenIn : Stepped → Seen
-seenIn (stopped r) = Seen.Nothing
-seenIn (completed d m k x) = Seen.Step x
 
 -- ---- a step in two parts: all that no register takes part in, and the instruction by its first half
 

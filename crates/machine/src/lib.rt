@@ -1,17 +1,17 @@
-// The machine: the choice of a step, one step and its line, refusals, and a run under a budget.
+// The machine: the choice of a step, one step, refusals, and a run under a budget.
 mod choice;
 mod refusals;
 mod registers;
 pub mod run;
 mod step;
-pub mod trace;
 
-pub use registers::fresh;
-
+pub use choice::choose;
 use cpu::Control;
 use cpu::Entry;
 use instruction::Reply;
 use marks::Flags;
+pub use registers::fresh;
+pub use step::entry_of;
 use word::ByteAddr;
 
 // Sixteen registers, each with a mark; the marks of TF and CY; and what is never marked.
@@ -60,11 +60,6 @@ pub struct Line {
     pub pc: ByteAddr,
     pub entry: Entry,
     pub address: Data,
-}
-
-pub enum Seen {
-    Nothing,
-    Step(Line),
 }
 
 pub enum Judged {

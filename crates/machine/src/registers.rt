@@ -1,7 +1,6 @@
 // Register values and marks, as arrays passed and returned by value.
 ghost use mathlib.Core.Path.{_≡_};
-ghost use mathlib.Core.Bool.{false};
-ghost use lib.ListN.{getD, set};
+ghost use lib.ListN.{set};
 ghost use Rattle.machine.specs.State.{freshState};
 use crate::State;
 use marks::Flags;
@@ -18,26 +17,6 @@ pub fn fresh() -> State
         },
         control: cpu::fresh_control(),
     }
-}
-
-pub fn value_in(regs: [u32; 16], i: u32) -> u32
-    ensures { λ r. ⌜ r ≡ getD regs i 0 ⌝ }
-{
-    if i < 16 {
-        let k = i as usize;
-        return regs[k];
-    }
-    0
-}
-
-pub fn mark_in(marks: [bool; 16], i: u32) -> bool
-    ensures { λ r. ⌜ r ≡ getD marks i false ⌝ }
-{
-    if i < 16 {
-        let k = i as usize;
-        return marks[k];
-    }
-    false
 }
 
 // Registers with one of them replaced; where there is no such register, as they were.

@@ -5,11 +5,11 @@ use mathlib.Core.Path.{_≡_, refl, sym, ap, ap₂, _∙_}
 use mathlib.Core.Bool.{Bool, true, false, cond, not, Bool·beq, _&&_, _||_}
 use native.Mathlib.Omega.{arith}
 use lib.Dec.{ltb, eqb, lit≤}
-use Rattle.word.specs.Bits.{num, on, fieldOf, put, withField}
+use Rattle.word.specs.Bits.{num, on, fieldOf, withField}
 use Rattle.word.specs.Numbers.{lslOf}
 use Rattle.word.specs.declared.ByteAddr.{ByteAddr}
 use Rattle.word.specs.declared.HalfDisp.{HalfDisp}
-use Rattle.cpu.specs.Control.{withPc, withSfr, withPsw, withHwdbg, withPending, withTimer, withTf, withCy}
+use Rattle.cpu.specs.Control.{withPc, withSfr, withPsw, withPending, withTimer, withTf, withCy}
 use Rattle.cpu.specs.Entries.{enter, entered, isBreak, watchHit, watchEntry, fallen}
 use Rattle.cpu.specs.Exec.{onward, goTo, linked, jump, branch, accepted, timerWritten, written, leave}
 use Rattle.cpu.specs.declared.Control.{Control}

@@ -1,9 +1,10 @@
 // Reads the cases of docs/CORPUS.md, runs each through the proved library, and writes one line for each.
+ghost use Prim.Native.Nat.{_≤_};
 use cpu::Entry;
 use libc::STDIN_FILENO;
 use libc::STDOUT_FILENO;
 use machine::Data;
-use machine::Seen;
+use trace::Seen;
 use word::ByteAddr;
 use word::Width;
 
@@ -70,14 +71,20 @@ fn one_step(d: u64, record: &mut [u8], memory: &mut [u8], marks: &mut [u8], tape
     if tape.len() == 0 {
         return d;
     }
-    let seen = machine::trace::show(wide(tape[0]), abi::state_at(record), memory, marks);
+    let seen = trace::show(wide(tape[0]), abi::state_at(record), memory, marks);
     let mut made: u64 = 0;
     abi::manik_run(record, memory, marks, tape, 1, &mut made);
     folded_line(d, seen)
 }
 
 // The digest of a run's trace, step by step from where it began.
-fn trace(record: &mut [u8], memory: &mut [u8], marks: &mut [u8], tape: &[u8], steps: u64) -> u64 {
+fn trace_of(
+    record: &mut [u8],
+    memory: &mut [u8],
+    marks: &mut [u8],
+    tape: &[u8],
+    steps: u64,
+) -> u64 {
     let mut d: u64 = 1;
     let mut n: usize = 0;
     while n < tape.len() {
@@ -161,14 +168,7 @@ fn write_made(line: &[u8; 512], n: usize) {
     write_start(line, n);
 }
 
-fn write_line(
-    reply: u32,
-    steps: u64,
-    record: &[u8; 160],
-    memory: u64,
-    marks: u64,
-    trace: u64,
-) {
+fn write_line(reply: u32, steps: u64, record: &[u8; 160], memory: u64, marks: u64, trace: u64) {
     let mut line = [0u8; 512];
     let a = put_number(&mut line, 0, reply as u64);
     let b = put_tab(&mut line, a);
@@ -203,7 +203,7 @@ fn answer_case(
     copy(marks, tags);
     let mut steps: u64 = 0;
     let reply = abi::manik_run(record, memory, marks, tape, budget, &mut steps);
-    let shown = trace(&mut again, second, tags, tape, steps);
+    let shown = trace_of(&mut again, second, tags, tape, steps);
     write_line(reply, steps, record, digest(memory), digest(marks), shown);
 }
 
@@ -223,6 +223,21 @@ fn run_case(
     answer_case(record, memory, marks, tape, budget, second, tags);
 }
 
+fn least(n: usize, a: usize, b: usize) -> usize
+    ensures { λ r. ⌜ (r ≤ a) × (r ≤ b) ⌝ }
+{
+    if n <= a {
+        if n <= b {
+            return n;
+        }
+        return b;
+    }
+    if a <= b {
+        return a;
+    }
+    b
+}
+
 fn size_at(sizes: &[u8], at: u32) -> usize {
     word::load(Width::Word, sizes, ByteAddr(at)) as usize
 }
@@ -238,8 +253,8 @@ fn one_case(
     tags: &mut [u8],
 ) {
     io::read_full(STDIN_FILENO, sizes);
-    let m = word::at_most(word::at_most(size_at(sizes, 0), memory.len()), second.len());
-    let k = word::at_most(word::at_most(size_at(sizes, 4), marks.len()), tags.len());
+    let m = least(size_at(sizes, 0), memory.len(), second.len());
+    let k = least(size_at(sizes, 4), marks.len(), tags.len());
     let t = word::at_most(size_at(sizes, 8), tape.len());
     let budget = size_at(sizes, 12) as u64;
     run_case(

@@ -10,7 +10,8 @@ use lib.Dec.{ltb, leb, lit<}
 use lib.Pow.{pow-pos, pow-add, pow-mono, shl-exact, shr-le, shr-mono, high, low, ones-split, high-ones}
 use borrow.Author.Tests.{ltb-true, ltb-false, leb-true, leb-false, lt-ltb, le-ltb, le-leb, lt-leb, eqb-true, eq-eqb, ne-eqb}
 use Rattle.word.specs.Bits.{num, on, fieldOf}
-use Rattle.word.specs.Numbers.{wrap, differenceOf, lessOf, negativeOf, overflowOf, signedOf, extendOf, fitsOf}
+use Rattle.word.specs.Numbers.{wrap, differenceOf, lessOf, signedOf, extendOf, fitsOf}
+use Rattle.word.specs.Flags.{negativeOf, overflowOf}
 
 -- a wrapped difference, from what subtracting twice leaves
 pub difference : (x y n r s : ℕ) → y < 2 ^ 32 → n < 2 → r < 2 ^ 32 → s < 2 ^ 32 → (r + y) % 2 ^ 32 ≡ x → (s + n) % 2 ^ 32 ≡ r

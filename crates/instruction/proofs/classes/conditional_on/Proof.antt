@@ -1,15 +1,8 @@
 use Rattle.cpu.specs.Exec.{exec}
 use Rattle.marks.specs.Marks.{taint}
-use borrow.Author.Tests.{lt-ltb, le-ltb, le-leb, lt-leb, eq-eqb, ne-eqb}
 use borrow.Author.Needs.{needs}
 use Rattle.instruction.proofs.classes.conditional_on.Statement.{statement}
 use Rattle.instruction.proofs.classes.conditional_on.Tie as tie
-use Rattle.instruction.proofs.classes.conditional_on.Reads as reads
-use Rattle.instruction.proofs.classes.conditional_on.Lts as lts
-use Rattle.cpu.proofs.is_wanted.Reads as is-wanted-reads
-use Rattle.cpu.proofs.conditional.Reads as conditional-reads
-use Rattle.instruction.proofs.classes.does.Reads as does-reads
-use Rattle.marks.proofs.mark_conditional.Reads as mark-conditional-reads
 
 is-wanted-requires : tie.Need-is-wanted-requires
 is-wanted-requires c κs = search needs

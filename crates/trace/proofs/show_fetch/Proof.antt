@@ -1,6 +1,6 @@
 use borrow.Author.Needs.{needs}
-use Rattle.machine.proofs.trace.show_fetch.Statement.{statement}
-use Rattle.machine.proofs.trace.show_fetch.Tie as tie
+use Rattle.trace.proofs.show_fetch.Statement.{statement}
+use Rattle.trace.proofs.show_fetch.Tie as tie
 
 fetch-requires : tie.Need-fetch-requires
 fetch-requires c κs = search needs

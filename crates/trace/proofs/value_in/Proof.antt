@@ -2,8 +2,8 @@ use native.Mathlib.Omega.{arith}
 use lib.ListN.{length, List·getD-eq-default}
 use mathlib.Core.Path.{_≡_, sym}
 use borrow.Author.Needs.{needs}
-use Rattle.machine.proofs.registers.value_in.Statement.{statement}
-use Rattle.machine.proofs.registers.value_in.Tie as tie
+use Rattle.trace.proofs.value_in.Statement.{statement}
+use Rattle.trace.proofs.value_in.Tie as tie
 
 mul-result : tie.Need-mul-result
 mul-result c = search needs

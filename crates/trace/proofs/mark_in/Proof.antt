@@ -3,8 +3,8 @@ use lib.ListN.{length, List·getD-eq-default}
 use mathlib.Core.Path.{_≡_, sym}
 use mathlib.Core.Bool.{false}
 use borrow.Author.Needs.{needs}
-use Rattle.machine.proofs.registers.mark_in.Statement.{statement}
-use Rattle.machine.proofs.registers.mark_in.Tie as tie
+use Rattle.trace.proofs.mark_in.Statement.{statement}
+use Rattle.trace.proofs.mark_in.Tie as tie
 
 array-read-result : tie.Need-array-read-result
 array-read-result c = search needs

@@ -1,27 +1,48 @@
 // The line that a step shows, by value. It changes nothing: a run with a budget of 1 makes the step itself.
 ghost use mathlib.Core.Path.{_≡_};
-ghost use Prim.Native.Nat.{ℕ};
-ghost use Rattle.machine.specs.Step.{dataOf, actStep, instrStep, fetchStep, stepOf};
-ghost use Rattle.instruction.specs.Fetch.{fetchOf};
-ghost use Rattle.instruction.specs.Act.{Val};
+ghost use mathlib.Core.Bool.{false};
+ghost use lib.ListN.{getD};
 ghost use Rattle.cpu.specs.Control.{pcOf};
-ghost use Rattle.machine.specs.Parts.{seenIn};
-use crate::choice::choose;
-use crate::registers::mark_in;
-use crate::registers::value_in;
-use crate::step::entry_of;
-use crate::Data;
-use crate::Event;
-use crate::Line;
-use crate::Seen;
-use crate::State;
+ghost use Rattle.instruction.specs.Fetch.{fetchOf};
+ghost use Rattle.instruction.specs.Parts.{val};
+ghost use Rattle.machine.specs.Step.{dataOf, actStep, instrStep, fetchStep, stepOf};
+ghost use Rattle.trace.specs.Seen.{seenIn};
 use cpu::Control;
 use instruction::Act;
 use instruction::Fetched;
-use instruction::Half;
 use instruction::Reach;
 use isa::Instr;
+use machine::Data;
+use machine::Event;
+use machine::Line;
+use machine::State;
 use word::ByteAddr;
+
+// A step that stops shows nothing.
+pub enum Seen {
+    Nothing,
+    Step(Line),
+}
+
+fn value_in(regs: [u32; 16], i: u32) -> u32
+    ensures { λ r. ⌜ r ≡ getD regs i 0 ⌝ }
+{
+    if i < 16 {
+        let k = i as usize;
+        return regs[k];
+    }
+    0
+}
+
+fn mark_in(marks: [bool; 16], i: u32) -> bool
+    ensures { λ r. ⌜ r ≡ getD marks i false ⌝ }
+{
+    if i < 16 {
+        let k = i as usize;
+        return marks[k];
+    }
+    false
+}
 
 fn data_of(r: Reach) -> Data
     ensures { λ d. ⌜ d ≡ dataOf r ⌝ }
@@ -35,7 +56,7 @@ fn data_of(r: Reach) -> Data
 }
 
 fn show_act(a: Act, x: u32, mx: bool, c: Control, m: &[u8], mk: &[u8]) -> Seen
-    ensures { λ r. ⌜ r ≡ seenIn (actStep a (record { value = x; mark = mx }) c (now (m .entry)) (now (mk .entry))) ⌝ }
+    ensures { λ r. ⌜ r ≡ seenIn (actStep a (val x mx) c (now (m .entry)) (now (mk .entry))) ⌝ }
 {
     match a {
         Act::Stop(_) => Seen::Nothing,
@@ -43,7 +64,7 @@ fn show_act(a: Act, x: u32, mx: bool, c: Control, m: &[u8], mk: &[u8]) -> Seen
             let made = e.control;
             Seen::Step(Line {
                 pc: ByteAddr(c.pc),
-                entry: entry_of(r, made),
+                entry: machine::entry_of(r, made),
                 address: data_of(r),
             })
         }
@@ -79,7 +100,7 @@ pub fn show(t: u32, s: State, m: &[u8], mk: &[u8]) -> Seen
     ensures { λ r. ⌜ r ≡ seenIn (stepOf t s (now (m .entry)) (now (mk .entry))) ⌝ }
 {
     let c = s.control;
-    let e = choose(t, c);
+    let e = machine::choose(t, c);
     match e {
         Event::Enter(entry) => Seen::Step(Line {
             pc: ByteAddr(c.pc),

@@ -1,6 +1,6 @@
 use borrow.Author.Needs.{needs}
-use Rattle.machine.proofs.trace.data_of.Statement.{statement}
-use Rattle.machine.proofs.trace.data_of.Tie as tie
+use Rattle.trace.proofs.data_of.Statement.{statement}
+use Rattle.trace.proofs.data_of.Tie as tie
 
 enum-told : tie.Need-enum-told
 enum-told c = search needs

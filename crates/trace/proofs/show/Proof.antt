@@ -1,7 +1,7 @@
 use Rattle.machine.specs.Step.{stepOf}
 use borrow.Author.Needs.{needs}
-use Rattle.machine.proofs.trace.show.Statement.{statement}
-use Rattle.machine.proofs.trace.show.Tie as tie
+use Rattle.trace.proofs.show.Statement.{statement}
+use Rattle.trace.proofs.show.Tie as tie
 
 choose-requires : tie.Need-choose-requires
 choose-requires c κs = search needs

@@ -1,7 +1,7 @@
 use Rattle.machine.specs.Step.{lineOf}
 use borrow.Author.Needs.{needs}
-use Rattle.machine.proofs.trace.show_act.Statement.{statement}
-use Rattle.machine.proofs.trace.show_act.Tie as tie
+use Rattle.trace.proofs.show_act.Statement.{statement}
+use Rattle.trace.proofs.show_act.Tie as tie
 
 enum-told : tie.Need-enum-told
 enum-told c = search needs

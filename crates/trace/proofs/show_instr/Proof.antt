@@ -1,7 +1,7 @@
 use Rattle.machine.specs.Step.{instrStep}
 use borrow.Author.Needs.{needs}
-use Rattle.machine.proofs.trace.show_instr.Statement.{statement}
-use Rattle.machine.proofs.trace.show_instr.Tie as tie
+use Rattle.trace.proofs.show_instr.Statement.{statement}
+use Rattle.trace.proofs.show_instr.Tie as tie
 
 sources-of-requires : tie.Need-sources-of-requires
 sources-of-requires c κs = search needs
