@@ -220,11 +220,11 @@ fn entering() -> [(&'static str, Entry, Rig, u8); 5] {
     let timer = changed(mov, |rig| (rig.state.psw, rig.state.pending) = (psw::IE | psw::TE, true));
     let external = changed(mov, |rig| rig.state.psw = psw::IE | 1 << psw::ENABLE_SHIFT);
     [
-        ("swint", Entry::Swint, swint, 0),
-        ("debug, breakpoint", Entry::Debug, breakpoint, 0),
-        ("debug, watchpoint", Entry::Debug, watchpoint, 0),
+        ("swint", Entry::Swint(3), swint, 0),
+        ("debug, breakpoint", Entry::Debug(hwdbg::BP_HIT), breakpoint, 0),
+        ("debug, watchpoint", Entry::Debug(hwdbg::WP1_HIT), watchpoint, 0),
         ("timer", Entry::Timer, timer, 0),
-        ("external", Entry::External, external, 1),
+        ("external", Entry::External(0), external, 1),
     ]
 }
 
