@@ -5,8 +5,8 @@
  * needs nothing but itself: it calls no function, keeps nothing between calls, and reads and writes only what a call lends it.
  * So calls on different buffers may run in different threads at the same time.
  *
- * "The rules" below is document 01. What manik_run answers is the definition `called` of crates/abi/specs/Call.antt; the
- * function is proved equal to it for every input.
+ * "The rules" below are document 01's, which docs/MANIK.md restates. What manik_run answers is the definition `called` of
+ * crates/abi/specs/Call.antt; the function is proved equal to it for every input.
  */
 #ifndef MANIK_H
 #define MANIK_H
