@@ -346,7 +346,7 @@ call-bytes r m k t b h = go (shaped r)
 
 -- ---- the call
 
-answer-same : (x y : Final) → SameFinal x y → Sixteen (x .ended .state) → SameAnswer (replied x) (textOf y)
+answer-same : (x y : Final) → SameFinal x y → Sixteen (x .ended .state) → SameAnswer (replied x) (replied y)
 answer-same x y s n =
     record {
       reply = ap numberOf (s .reply);
@@ -361,7 +361,7 @@ unfolding called
 call-same r q m n k t b s mem = rw (← shaped-same s) (go (shaped r) refl)
   where
     go : (z : Bool) → shaped r ≡ z
-        → SameAnswer (cond z (replied (runOf b t (stateAt r) m k)) (notRecord r m k)) (cond z (textOf (runOf b t (stateAt q) n k)) (notRecord q n k))
+        → SameAnswer (cond z (replied (runOf b t (stateAt r) m k)) (notRecord r m k)) (cond z (replied (runOf b t (stateAt q) n k)) (notRecord q n k))
     go true e =
         answer-same _ _ (two-runs b t (stateAt r) (stateAt q) m n k (state-same s (in-shape r e .long)) mem .0)
         (run-sixteen b t (stateAt r) m k (sixteen-at r))
