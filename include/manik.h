@@ -1,12 +1,12 @@
 /*
  * Pushvratem: a proved reference model of the MANIK core, as a C library.
  *
- * `rt staticlib abi` writes the library, target/staticlib/libabi.a, for x86-64 Linux. It needs nothing but itself: it calls
- * no function, keeps nothing between calls, and reads and writes only what a call lends it. So calls on different buffers may
- * run in different threads at the same time.
+ * tools/library makes the library, target/staticlib/libabi.a, for x86-64 Linux, and docs/HOSTS.md shows a program with it. It
+ * needs nothing but itself: it calls no function, keeps nothing between calls, and reads and writes only what a call lends it.
+ * So calls on different buffers may run in different threads at the same time.
  *
- * "The rules" below is document 01. What manik_run answers is the definition `called` of crates/abi/specs/Call.antt; the
- * function is proved equal to it for every input.
+ * "The rules" below are document 01's, which docs/MANIK.md restates. What manik_run answers is the definition `called` of
+ * crates/abi/specs/Call.antt; the function is proved equal to it for every input.
  */
 #ifndef MANIK_H
 #define MANIK_H
@@ -41,9 +41,10 @@ enum manik_reply {
     MANIK_MEMORY_LENGTH = 1,   /* memory length is 0, above 65,536, or no multiple of 4 */
     MANIK_MARK_LENGTH = 2,     /* mark slice of another length */
     MANIK_MARK_BYTE = 3,       /* a mark byte above 1 */
-    MANIK_FORM = 4,            /* state out of form */
+    MANIK_FORM = 4,            /* state out of form: odd program counter; PSW bit 12 set; HWDBG bits 0, 1 not both set or a bit
+                                  of 9 to 31 set; timer pending with TIMER not 0 */
     MANIK_TAPE_LENGTH = 5,     /* tape shorter than the budget */
-    MANIK_TAPE_BYTE = 6,       /* a byte above 63 among the first `budget` tape bytes */
+    MANIK_TAPE_BYTE = 6,       /* a byte above 63 among the first "budget" tape bytes */
     MANIK_BUDGET = 10,         /* budget used up */
     MANIK_FETCH_OUTSIDE = 11,  /* instruction fetch outside memory */
     MANIK_FETCH_MARKED = 12,   /* instruction fetch from a marked byte */

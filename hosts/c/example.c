@@ -27,7 +27,7 @@ static void put_word(uint8_t *state, size_t at, uint32_t x)
         state[at + i] = (uint8_t)(x >> (24 - 8 * i));
 }
 
-/* The fresh state, and memory with movi r1,16; add r1,r1; sj 0: a jump to itself. */
+/* The fresh state, and memory with movi r1,16; add r1,r1; sj 4, a jump to itself. */
 static struct machine fresh(void)
 {
     static const uint8_t program[] = { 0x71, 0x10, 0x21, 0x11, 0xf4, 0x00 };

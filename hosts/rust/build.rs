@@ -1,4 +1,4 @@
-//! Links the static library from `MANIK_LIB_DIR`, or from where `rt staticlib abi` writes it.
+//! Links the static library from `MANIK_LIB_DIR`, or from where `tools/library` makes it.
 
 use std::env;
 use std::path::PathBuf;
@@ -11,7 +11,7 @@ fn main() {
     };
     let archive = folder.join("libabi.a");
     println!("cargo:rerun-if-changed={}", archive.display());
-    assert!(archive.exists(), "no {}: write it with `rt staticlib abi`", archive.display());
+    assert!(archive.exists(), "no {}: make it with tools/library", archive.display());
     println!("cargo:rustc-link-search=native={}", folder.display());
     println!("cargo:rustc-link-lib=static=abi");
 }

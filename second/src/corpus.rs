@@ -4,16 +4,19 @@ mod build;
 mod coverage;
 mod edges;
 mod random;
+mod trace;
 
 pub use build::{assemble, Line};
 pub use coverage::{coverage, Coverage};
 pub use edges::edges;
 pub use random::random;
+pub use trace::{trace_line, TraceLine};
 
 use crate::record;
 use crate::reply::Reply;
 use crate::run::{run, Outcome};
 use crate::state::State;
+use crate::step::step;
 
 /// The number of generated cases, and the seed that they come from.
 const GENERATED: u32 = 2_500;
@@ -59,13 +62,25 @@ impl Case {
         bytes
     }
 
+    /// The trace of the completed steps, so many, which are made once more, one by one.
+    ///
+    /// `run_observed` would show them in the run itself; but a second use of it in this crate keeps
+    /// the compiler from inlining the step into `run`.
+    pub fn trace(&self, steps: u64) -> Vec<TraceLine> {
+        let Case { mut state, mut memory, mut marks, .. } = self.clone();
+        let completed = self.tape[..steps as usize].iter();
+        let shown = completed.map(|&lines| step(&mut state, &mut memory, &mut marks, lines));
+        shown.map(|step| trace_line(step.expect("it was completed"))).collect()
+    }
+
     /// The line that answers the case, with its newline.
     pub fn answer(&self) -> String {
         let (Outcome { reply, steps }, after) = self.run();
         let record: String =
             record::write(&after.state).iter().map(|byte| format!("{byte:02x}")).collect();
         let (memory, marks) = (digest(&after.memory), digest(&after.marks));
-        format!("{}\t{steps}\t{record}\t{memory}\t{marks}\n", reply.number())
+        let trace = digest(self.trace(steps).as_flattened());
+        format!("{}\t{steps}\t{record}\t{memory}\t{marks}\t{trace}\n", reply.number())
     }
 }
 

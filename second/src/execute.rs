@@ -19,6 +19,12 @@ pub(crate) enum Effect {
     TimerWritten,
 }
 
+/// Memory and its marks, one for each byte.
+struct Memory<'m> {
+    bytes: &'m mut [u8],
+    marks: &'m mut [u8],
+}
+
 /// Does the instruction at the program counter, or stops and changes nothing.
 #[inline]
 pub(crate) fn instruction(
@@ -26,113 +32,62 @@ pub(crate) fn instruction(
     memory: &mut [u8],
     marks: &mut [u8],
 ) -> Result<Effect, Reply> {
-    let instr = fetch(state.pc, memory, marks)?;
-    execute(instr, state, memory, marks)
+    let mut memory = Memory { bytes: memory, marks };
+    let instr = fetch(state.pc, &memory)?;
+    execute(instr, state, &mut memory)
 }
 
 /// The instruction at `pc`. "A program counter found odd inside a run answers 13, before all
 /// these."
 #[inline]
-fn fetch(pc: u32, memory: &[u8], marks: &[u8]) -> Result<Instr, Reply> {
+fn fetch(pc: u32, memory: &Memory) -> Result<Instr, Reply> {
     if pc & 1 != 0 {
         return Err(Reply::NoInstruction);
     }
-    let first = fetch_half(pc, memory, marks)?;
+    let first = memory.half(pc)?;
     // A half that needs a second one begins an instruction whatever that is, so stop 13 still
     // comes before the stops of the second half.
-    let second =
-        if needs_second(first) { fetch_half(pc.wrapping_add(2), memory, marks)? } else { 0 };
+    let second = if needs_second(first) { memory.half(pc.wrapping_add(2))? } else { 0 };
     decode(first, second).ok_or(Reply::NoInstruction)
-}
-
-/// Half an instruction.
-#[inline(always)]
-fn fetch_half(address: u32, memory: &[u8], marks: &[u8]) -> Result<u16, Reply> {
-    let half = word::load(memory, address, Width::Half).ok_or(Reply::FetchOutside)?;
-    if any_marked(marks, address, Width::Half) {
-        return Err(Reply::FetchMarked);
-    }
-    Ok(half as u16)
-}
-
-/// Whether any byte of an access is marked. Mark bytes are 0 or 1, one for each byte of memory.
-#[inline]
-fn any_marked(marks: &[u8], address: u32, width: Width) -> bool {
-    word::load(marks, address, width) != Some(0)
 }
 
 /// Does one instruction, or stops and changes nothing.
 #[inline]
-fn execute(
-    instr: Instr,
-    state: &mut State,
-    memory: &mut [u8],
-    marks: &mut [u8],
-) -> Result<Effect, Reply> {
-    let pc = state.pc;
-    let mut next = pc.wrapping_add(instr.size());
+fn execute(instr: Instr, state: &mut State, memory: &mut Memory) -> Result<Effect, Reply> {
+    let mut next = state.pc.wrapping_add(instr.size());
     let mut effect = Effect::Nothing;
     match instr {
         Instr::Alu { op, rd, rb } => alu(state, op, rd, rb),
         Instr::Andi { rd, uimm8 } => state.change(rd, |value| value & uimm8),
         Instr::Addi { rd, simm8 } => state.change(rd, |value| value.wrapping_add(simm8)),
         Instr::Movi { rd, simm8 } => state.set(rd, simm8, false),
-        Instr::MultShift { op, rd, rb } => {
-            state.combine(rd, rb, |d, b| mult_shift(op, d, b));
-        }
-        Instr::MultShiftImmediate { op, rd, uimm4 } => {
-            state.change(rd, |value| mult_shift(op, value, uimm4));
-        }
-        Instr::Compare { op, rd, rb } => {
-            let (d, b) = (state.register(rd), state.register(rb));
-            state.set_tf(compare(op, d.value, b.value), d.marked | b.marked);
-        }
-        Instr::CompareImmediate { op, rd, simm4 } => {
-            let d = state.register(rd);
-            state.set_tf(compare_immediate(op, d.value, simm4), d.marked);
-        }
+        Instr::MultShift { op, rd, rb } => mult_shift(state, op, rd, rb),
+        Instr::MultShiftImmediate { op, rd, uimm4 } => mult_shift_immediate(state, op, rd, uimm4),
+        Instr::Compare { op, rd, rb } => compare(state, op, rd, rb),
+        Instr::CompareImmediate { op, rd, simm4 } => compare_immediate(state, op, rd, simm4),
         Instr::Conditional { tf, op, rd, rb } => conditional(state, tf, op, rd, rb),
-        Instr::ConditionalAddImmediate { tf, rd, simm4 } => {
-            let d = state.register(rd);
-            let sum = Register { value: d.value.wrapping_add(simm4), marked: d.marked };
-            state.set_if(tf, rd, sum);
-        }
+        Instr::ConditionalAddImmediate { tf, rd, simm4 } => conditional_add(state, tf, rd, simm4),
         Instr::Load { width, rd, uimm4, rb } => {
-            let address = data_address(state.unmarked(rb)?, uimm4, width);
-            load(state, memory, marks, rd, address, width)?;
-            effect = Effect::Data(address);
+            effect = Effect::Data(load(state, memory, rd, state.unmarked(rb)?, uimm4, width)?);
         }
         Instr::Store { width, rd, uimm4, rb } => {
             let address = data_address(state.unmarked(rb)?, uimm4, width);
-            store(state.register(rd), memory, marks, address, width)?;
+            memory.store(address, width, state.register(rd))?;
             effect = Effect::Data(address);
         }
         Instr::Ldrpc { rd, uimm8 } => {
-            let address = data_address(pc, uimm8, Width::Word);
-            load(state, memory, marks, rd, address, Width::Word)?;
-            effect = Effect::Data(address);
+            effect = Effect::Data(load(state, memory, rd, state.pc, uimm8, Width::Word)?);
         }
-        Instr::Mfsfr { rd, sfr } => {
-            let marked = sfr == sfr::PSW && state.flag_marked();
-            state.set(rd, state.sfr(sfr), marked);
-        }
+        Instr::Mfsfr { rd, sfr } => read_sfr(state, rd, sfr),
         Instr::Mtsfr { sfr, rb } => effect = write_sfr(state, sfr, state.unmarked(rb)?),
         Instr::Swint { code } => effect = Effect::Swint(code),
         Instr::Jr { rb } => next = register_target(state.unmarked(rb)?),
-        Instr::Jrl { rb } => {
-            next = register_target(state.unmarked(rb)?);
-            state.ra = pc.wrapping_add(4);
-        }
+        Instr::Jrl { rb } => next = link(state, register_target(state.unmarked(rb)?)),
         Instr::Jsfr { sfr } => next = jump_to_sfr(state, sfr)?,
         Instr::ShortJump { when, displacement } | Instr::LongJump { when, displacement } => {
-            if taken(state, when)? {
-                next = jump_target(pc, displacement);
-            }
+            next = if taken(state, when)? { jump_target(state.pc, displacement) } else { next };
         }
-        Instr::Jl { displacement } => {
-            next = jump_target(pc, displacement);
-            state.ra = pc.wrapping_add(4);
-        }
+        Instr::Jl { displacement } => next = link(state, jump_target(state.pc, displacement)),
     }
     state.pc = next;
     Ok(effect)
@@ -161,9 +116,22 @@ fn alu(state: &mut State, op: AluOp, rd: u32, rb: u32) {
     }
 }
 
-/// The multiply and the shifts.
+/// The multiply and the shifts by a register.
 #[inline]
-fn mult_shift(op: MultShiftOp, x: u32, y: u32) -> u32 {
+fn mult_shift(state: &mut State, op: MultShiftOp, rd: u32, rb: u32) {
+    let (d, b) = (state.register(rd), state.register(rb));
+    state.set(rd, mult_or_shift(op, d.value, b.value), d.marked | b.marked);
+}
+
+/// The multiply and the shifts by UIMM4.
+#[inline]
+fn mult_shift_immediate(state: &mut State, op: MultShiftOp, rd: u32, uimm4: u32) {
+    state.change(rd, |value| mult_or_shift(op, value, uimm4));
+}
+
+/// `x` multiplied or shifted by `y`.
+#[inline]
+fn mult_or_shift(op: MultShiftOp, x: u32, y: u32) -> u32 {
     match op {
         MultShiftOp::Lsl => word::lsl(x, y),
         MultShiftOp::Lsr => word::lsr(x, y),
@@ -174,25 +142,30 @@ fn mult_shift(op: MultShiftOp, x: u32, y: u32) -> u32 {
 
 /// The compares of two registers.
 #[inline]
-fn compare(op: CompareOp, x: u32, y: u32) -> bool {
-    match op {
+fn compare(state: &mut State, op: CompareOp, rd: u32, rb: u32) {
+    let (d, b) = (state.register(rd), state.register(rb));
+    let (x, y) = (d.value, b.value);
+    let tf = match op {
         CompareOp::Eq => x == y,
         CompareOp::Hs => x >= y,
         CompareOp::Ls => x <= y,
         CompareOp::Lt => word::less(x, y),
         CompareOp::Gt => word::less(y, x),
-    }
+    };
+    state.set_tf(tf, d.marked | b.marked);
 }
 
 /// The compares with SIMM4. Both are signed: Appendix B calls cmpgti's Rd unsigned, but the
 /// guide's table decides.
 #[inline]
-fn compare_immediate(op: CompareImmediateOp, x: u32, simm4: u32) -> bool {
-    match op {
-        CompareImmediateOp::Eq => x == simm4,
-        CompareImmediateOp::Lt => word::less(x, simm4),
-        CompareImmediateOp::Gt => word::less(simm4, x),
-    }
+fn compare_immediate(state: &mut State, op: CompareImmediateOp, rd: u32, simm4: u32) {
+    let Register { value, marked } = state.register(rd);
+    let tf = match op {
+        CompareImmediateOp::Eq => value == simm4,
+        CompareImmediateOp::Lt => word::less(value, simm4),
+        CompareImmediateOp::Gt => word::less(simm4, value),
+    };
+    state.set_tf(tf, marked);
 }
 
 /// The conditional instructions on two registers.
@@ -208,35 +181,34 @@ fn conditional(state: &mut State, tf: bool, op: ConditionalOp, rd: u32, rb: u32)
     state.set_if(tf, rd, result);
 }
 
-/// Loads Rd from an aligned address; marked if any byte loaded is.
+/// addif and addit.
+#[inline]
+fn conditional_add(state: &mut State, tf: bool, rd: u32, simm4: u32) {
+    let Register { value, marked } = state.register(rd);
+    state.set_if(tf, rd, Register { value: value.wrapping_add(simm4), marked });
+}
+
+/// Loads Rd from so many units behind a base, and answers the address.
 #[inline]
 fn load(
     state: &mut State,
-    memory: &[u8],
-    marks: &[u8],
+    memory: &Memory,
     rd: u32,
-    address: u32,
+    base: u32,
+    units: u32,
     width: Width,
-) -> Result<(), Reply> {
-    let value = word::load(memory, address, width).ok_or(Reply::DataOutside)?;
-    state.set(rd, value, any_marked(marks, address, width));
-    Ok(())
+) -> Result<u32, Reply> {
+    let address = data_address(base, units, width);
+    let Register { value, marked } = memory.load(address, width)?;
+    state.set(rd, value, marked);
+    Ok(address)
 }
 
-/// Stores at an aligned address. "A stored byte takes the register's mark, so an unmarked store
-/// clears one."
+/// mfsfr. "mfsfr psw is marked if TF or CY is; other mfsfr results are not."
 #[inline]
-fn store(
-    register: Register,
-    memory: &mut [u8],
-    marks: &mut [u8],
-    address: u32,
-    width: Width,
-) -> Result<(), Reply> {
-    let mark_bytes = if register.marked { 0x0101_0101 } else { 0 };
-    let inside = word::store(memory, address, width, register.value)
-        && word::store(marks, address, width, mark_bytes);
-    inside.then_some(()).ok_or(Reply::DataOutside)
+fn read_sfr(state: &mut State, rd: u32, number: u32) {
+    let marked = number == sfr::PSW && state.flag_marked();
+    state.set(rd, state.sfr(number), marked);
 }
 
 /// The bits that mtsfr psw keeps: 12, 14, 15 and 26 to 31.
@@ -292,6 +264,13 @@ fn jump_to_sfr(state: &mut State, number: u32) -> Result<u32, Reply> {
     Ok(register_target(state.sfr(number)))
 }
 
+/// "jl and jrl set RA to the program counter + 4"; the target is passed on.
+#[inline]
+fn link(state: &mut State, target: u32) -> u32 {
+    state.ra = state.pc.wrapping_add(4);
+    target
+}
+
 /// "Register jumps, jsfr among them, drop bit 0."
 #[inline]
 const fn register_target(value: u32) -> u32 {
@@ -306,6 +285,42 @@ fn taken(state: &State, when: When) -> Result<bool, Reply> {
         _ if state.tf_marked => Err(Reply::OperandMarked),
         When::False => Ok(!state.tf()),
         When::True => Ok(state.tf()),
+    }
+}
+
+/// Memory as the instructions are fetched from it, and as they read and write it.
+impl Memory<'_> {
+    /// Half an instruction.
+    #[inline(always)]
+    fn half(&self, address: u32) -> Result<u16, Reply> {
+        let half = word::load(self.bytes, address, Width::Half).ok_or(Reply::FetchOutside)?;
+        if self.any_marked(address, Width::Half) {
+            return Err(Reply::FetchMarked);
+        }
+        Ok(half as u16)
+    }
+
+    /// What is loaded from an aligned address: marked if any byte is.
+    #[inline]
+    fn load(&self, address: u32, width: Width) -> Result<Register, Reply> {
+        let value = word::load(self.bytes, address, width).ok_or(Reply::DataOutside)?;
+        Ok(Register { value, marked: self.any_marked(address, width) })
+    }
+
+    /// Stores at an aligned address. "A stored byte takes the register's mark, so an unmarked
+    /// store clears one."
+    #[inline]
+    fn store(&mut self, address: u32, width: Width, register: Register) -> Result<(), Reply> {
+        let mark_bytes = if register.marked { 0x0101_0101 } else { 0 };
+        let inside = word::store(self.bytes, address, width, register.value)
+            && word::store(self.marks, address, width, mark_bytes);
+        inside.then_some(()).ok_or(Reply::DataOutside)
+    }
+
+    /// Whether any byte of an access is marked. Mark bytes are 0 or 1.
+    #[inline]
+    fn any_marked(&self, address: u32, width: Width) -> bool {
+        word::load(self.marks, address, width) != Some(0)
     }
 }
 
@@ -336,13 +351,6 @@ impl State {
     fn change(&mut self, rd: u32, operation: impl FnOnce(u32) -> u32) {
         let register = self.register(rd);
         self.set(rd, operation(register.value), register.marked);
-    }
-
-    /// Rd from Rd and Rb.
-    #[inline]
-    fn combine(&mut self, rd: u32, rb: u32, operation: impl FnOnce(u32, u32) -> u32) {
-        let (d, b) = (self.register(rd), self.register(rb));
-        self.set(rd, operation(d.value, b.value), d.marked | b.marked);
     }
 
     /// Rd and CY of a sum or difference.

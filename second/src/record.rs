@@ -1,4 +1,4 @@
-//! The state record of 160 bytes, words big-endian (`DESIGN.md`, "The static library").
+//! The state record of 160 bytes, words big-endian (`include/manik.h`).
 //!
 //! ```text
 //! 0 r0..r15 · 64 marks of r0..r15 · 80 pc · 84 PSW · 88 mark of TF · 89 mark of CY · 90 pending ·

@@ -50,6 +50,8 @@ pub mod hwdbg {
     pub const WP1: u32 = 1 << 5;
     /// All four enable bits.
     pub const ENABLES: u32 = BP0 | BP1 | WP0 | WP1;
+    /// The lowest of bits 8:6, which show a hit.
+    pub const HITS_SHIFT: u32 = 6;
     /// A breakpoint is hit.
     pub const BP_HIT: u32 = 1 << 6;
     /// WP0 is hit.

@@ -5,34 +5,40 @@ use crate::execute::{instruction, Effect};
 use crate::reply::Reply;
 use crate::state::{hwdbg, psw, State};
 
-/// The kind of an entry.
+/// An entry, with what the state shows of it (document 01, "One step").
 #[derive(Clone, Copy, Debug, PartialEq, Eq, Hash)]
 pub enum Entry {
-    Swint,
-    Debug,
+    /// By swint, with its 4 bits, which PSW 19:16 show.
+    Swint(u32),
+    /// By a breakpoint or by watchpoints, with the hit as HWDBG shows it, in the bits of
+    /// `hwdbg::HITS`.
+    Debug(u32),
+    /// By the timer.
     Timer,
-    External,
+    /// By an external line, with its number, 0 to 5; PSW 31:26 show it alone.
+    External(u32),
 }
 
 impl Entry {
     /// The low 8 bits of the program counter after the entry.
     const fn vector(self) -> u32 {
         match self {
-            Entry::Swint | Entry::Debug => 4,
+            Entry::Swint(_) | Entry::Debug(_) => 4,
             Entry::Timer => 8,
-            Entry::External => 12,
+            Entry::External(_) => 12,
         }
     }
 }
 
-/// What a completed step did, beside its changes.
+/// What a completed step shows, beside its changes: demand 3's program counters and addresses, and
+/// the entry, as a line of ticket 9 has them.
 #[derive(Clone, Copy, Debug, PartialEq, Eq, Hash)]
 pub struct Step {
     /// The program counter before the step.
     pub pc: u32,
     /// The entry that was made.
     pub entry: Option<Entry>,
-    /// The address, after alignment, of a load or store.
+    /// The address, after alignment, of a load or store (ldrpc too).
     pub address: Option<u32>,
 }
 
@@ -139,7 +145,7 @@ fn enter_interrupt(state: &mut State, interrupt: Interrupt) -> Entry {
         Interrupt::Line(line) => {
             let status = 1 << (psw::STATUS_SHIFT + line);
             state.psw = state.psw & !psw::STATUS | status | psw::EI;
-            enter(state, Entry::External)
+            enter(state, Entry::External(line))
         }
     }
 }
@@ -148,7 +154,7 @@ fn enter_interrupt(state: &mut State, interrupt: Interrupt) -> Entry {
 #[cold]
 fn enter_swint(state: &mut State, code: u32) -> Entry {
     state.psw = state.psw & !psw::SWI | code << psw::SWI_SHIFT | psw::SW;
-    enter(state, Entry::Swint)
+    enter(state, Entry::Swint(code))
 }
 
 /// "Debug entry clears SW, sets PSW 19:16 to ones, and makes HWDBG bits 6 to 8 (BP, WP0, WP1) show
@@ -157,7 +163,7 @@ fn enter_swint(state: &mut State, code: u32) -> Entry {
 fn enter_debug(state: &mut State, hits: u32) -> Entry {
     state.psw = state.psw & !psw::SW | psw::SWI;
     state.hwdbg = state.hwdbg & !hwdbg::HITS | hits;
-    enter(state, Entry::Debug)
+    enter(state, Entry::Debug(hits))
 }
 
 /// "If ... TIMER isn't 0, TIMER falls by 1; reaching 0 sets pending. ... Zero stays zero."

@@ -6,10 +6,12 @@ use std::fs;
 use std::path::PathBuf;
 
 use second::corpus::{
-    answers_file, cases, cases_file, coverage, digest, edges, random, Case, LONGEST_MEMORY,
-    LONGEST_TAPE,
+    answers_file, cases, cases_file, coverage, digest, edges, random, trace_line, Case, TraceLine,
+    LONGEST_MEMORY, LONGEST_TAPE,
 };
 use second::record;
+use second::run::{run_observed, Outcome};
+use second::state::State;
 
 /// The bytes of a stored file; if it is missing, the message tells how to write it.
 fn stored(name: &str, subcommand: &str) -> Vec<u8> {
@@ -122,6 +124,75 @@ fn the_edges_do_what_their_names_say() {
             assert_eq!(after.bytes(), edge.bytes(), "{}", edge.name);
         }
     }
+}
+
+/// The outcome of a case, and the lines of what its run shows.
+fn observe(case: &Case) -> (Outcome, Vec<TraceLine>) {
+    let Case { mut state, mut memory, mut marks, tape, budget, .. } = case.clone();
+    let mut lines = Vec::new();
+    let show = |step| lines.push(trace_line(step));
+    let outcome = run_observed(&mut state, &mut memory, &mut marks, &tape, budget.into(), show);
+    (outcome, lines)
+}
+
+/// The digest of the trace as the answer has it.
+fn trace_digest(case: &Case) -> u64 {
+    let answer = case.answer();
+    let fields: Vec<&str> = answer.trim_end().split('\t').collect();
+    assert_eq!(fields.len(), 6, "{answer}");
+    fields[5].parse().expect("a decimal")
+}
+
+/// The digests are those of the eleven bytes 0 0 0 0 's' 3 0 0 0 0 0, and of these and
+/// 0 0 0 4 '-' 0 1 0 0 0 8, by `docs/CORPUS.md`.
+#[test]
+fn the_last_field_of_an_answer_is_the_digest_of_the_trace() {
+    let mut memory = vec![0; 16];
+    memory[..2].copy_from_slice(&[0x10, 0x03]); // swint 3
+    memory[4..6].copy_from_slice(&[0x40, 0x11]); // ldrpc r1 from 4 + 4 * 1
+    let (marks, tape, state) = (vec![0; 16], vec![0; 2], State::fresh());
+    let name = "swint and ldrpc".to_string();
+    let mut case = Case { name, state, memory, marks, tape, budget: 2, promise: None };
+    assert_eq!(trace_digest(&case), 2_634_015_401);
+    case.budget = 1;
+    assert_eq!(trace_digest(&case), 2_988_234_681);
+    case.budget = 0;
+    assert_eq!(trace_digest(&case), 1, "no steps");
+    case.budget = 3;
+    assert_eq!(trace_digest(&case), 1, "refused: the tape is shorter than the budget");
+}
+
+#[test]
+fn a_trace_has_a_line_for_each_step_that_the_run_completes() {
+    for case in cases() {
+        let (outcome, lines) = observe(&case);
+        assert_eq!(lines.len() as u64, outcome.steps, "{}", case.name);
+        assert_eq!(lines, case.trace(outcome.steps), "{}", case.name);
+        assert_eq!(trace_digest(&case), digest(lines.as_flattened()), "{}", case.name);
+    }
+}
+
+/// The n-th line has the program counter after a run of n - 1 steps.
+#[test]
+fn each_line_has_the_program_counter_that_the_steps_before_it_left() {
+    for case in cases() {
+        let (_, lines) = observe(&case);
+        for (steps, line) in (0..).zip(&lines) {
+            let (_, after) = Case { budget: steps, ..case.clone() }.run();
+            assert_eq!(line[..4], after.state.pc.to_be_bytes(), "{}, {steps} steps", case.name);
+        }
+    }
+}
+
+/// A program that shows less than this, or more, has another digest somewhere.
+#[test]
+fn the_traces_have_every_entry_with_all_that_it_can_show() {
+    let lines = cases().into_iter().flat_map(|case| observe(&case).1);
+    let shown: HashSet<(char, u8)> = lines.map(|line| (line[4].into(), line[5])).collect();
+    let swint = (0..16).map(|bits| ('s', bits));
+    let external = (0..6).map(|line| ('e', line));
+    let others = [('-', 0), ('d', 1), ('d', 2), ('d', 4), ('d', 6), ('t', 0)];
+    assert_eq!(shown, swint.chain(external).chain(others).collect());
 }
 
 #[test]

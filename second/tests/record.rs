@@ -1,4 +1,4 @@
-//! The state record of `DESIGN.md`, "The static library".
+//! The state record of `include/manik.h`.
 
 use second::record::{read, write, LENGTH};
 use second::state::{Register, State};

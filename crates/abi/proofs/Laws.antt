@@ -83,14 +83,14 @@ put-none k m l i a h = ap (λ (r : List ℕ). sets m a (laid k r)) (drop-of-leng
 
 -- ---- reading what was laid out
 
-load-drop : (n : ℕ) (r : List ℕ) (b a : ℕ) → load n (drop b r) a ≡ load n r (b + a)
+pub load-drop : (n : ℕ) (r : List ℕ) (b a : ℕ) → load n (drop b r) a ≡ load n r (b + a)
 unfolding load
 load-drop zero r b a = refl
 load-drop (suc n) r b a =
     ap₂ (λ (p q : ℕ). p * 256 + q) (load-drop n r b a)
     (getD-drop b r (a + n) 0 ∙ ap (λ (k : ℕ). getD r k 0) (sym (add-assoc b a n)))
 
-load-bytes : (n v : ℕ) (y : List ℕ) → load n (bytes n v ++ y) 0 ≡ v % 2 ^ (8 * n)
+pub load-bytes : (n v : ℕ) (y : List ℕ) → load n (bytes n v ++ y) 0 ≡ v % 2 ^ (8 * n)
 unfolding load bytes
 load-bytes zero v y = sym (mod-one v)
 load-bytes (suc n) v y =
@@ -163,7 +163,7 @@ fill-none {A} f k n l i a g h =
 
 -- ---- flags and zeros
 
-load-one : (r : List ℕ) (a : ℕ) → load 1 r a ≡ getD r a 0
+pub load-one : (r : List ℕ) (a : ℕ) → load 1 r a ≡ getD r a 0
 unfolding load
 load-one r a = zero-add (getD r (a + 0) 0) ∙ ap (λ (i : ℕ). getD r i 0) (add-zero a)
 

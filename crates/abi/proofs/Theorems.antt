@@ -6,14 +6,14 @@ use mathlib.Core.Bool.{Bool, true, false}
 use mathlib.Core.List.{List, [], _++_, flatten}
 use native.Mathlib.Omega.{arith}
 use lib.ListN.{length, getD, drop, drop-of-length-le}
-use Rattle.machine.specs.State.{numberOf}
+use Rattle.instruction.specs.Reply.{numberOf}
 use Rattle.machine.specs.Run.{judge, runOf}
 use Rattle.machine.specs.declared.State.{State}
-use Rattle.machine.specs.declared.Reply.{Reply}
+use Rattle.instruction.specs.declared.Reply.{Reply}
 use Rattle.machine.specs.declared.Judged.{Judged}
-use Rattle.machine.proofs.Theorems.{refusal-changes-nothing}
+use Rattle.laws.proofs.Theorems.{refusal-changes-nothing}
 use Rattle.abi.specs.Record.{each, stateAt, flags, zeros, sfrsOf, controlPart, recordOf, shaped, InRange, Bytes}
-use Rattle.abi.specs.Call.{Answer, notRecord, called}
+use Rattle.abi.specs.Call.{notRecord, called}
 use Rattle.abi.proofs.Sixteen.{sixteen-at, run-sixteen}
 use Rattle.abi.proofs.Parts.{build, readWords, readFlags, in-parts, length-record, words-from, flags-from, words-part, flags-part, zeros-part, joined, in-shape, of-shape, flags-within, zeros-within, two, three, from132, from92, from88, from80, from64, rests}
 
@@ -106,10 +106,13 @@ pub record-answers : (r m k t : List ℕ) (b : ℕ) → shaped r ≡ true → 0 
 unfolding called
 record-answers r m k t b e = rw e (number-above (runOf b t (stateAt r) m k .ended .reply))
 
--- 8. What manik_run ensures determines its results: two that satisfy it coincide.
-pub call-determined : (z : Answer) (a b n l : ℕ) (r s m o k p : List ℕ)
-    → (a ≡ z .reply) × (n ≡ z .steps) × (r ≡ z .state) × (m ≡ z .mem) × (k ≡ z .marks)
-    → (b ≡ z .reply) × (l ≡ z .steps) × (s ≡ z .state) × (o ≡ z .mem) × (p ≡ z .marks)
-    → (a ≡ b) × (n ≡ l) × (r ≡ s) × (m ≡ o) × (k ≡ p)
-call-determined z a b n l r s m o k p u v =
+-- 8. What manik_run ensures of its result x, of the step count n, and of the record s, memory o and marks l at exit determines them: two that satisfy it
+-- coincide.
+abbrev pub Ensured : List ℕ → List ℕ → List ℕ → List ℕ → ℕ → ℕ → ℕ → List ℕ → List ℕ → List ℕ → Type 0
+Ensured r m k t b x n s o l =
+    (x ≡ called r m k t b .reply) × (n ≡ called r m k t b .steps) × (s ≡ called r m k t b .state) × (o ≡ called r m k t b .mem) × (l ≡ called r m k t b .marks)
+
+pub call-determined : (r m k t : List ℕ) (b x y n i : ℕ) (s q o p l j : List ℕ) → Ensured r m k t b x n s o l → Ensured r m k t b y i q p j
+    → (x ≡ y) × (n ≡ i) × (s ≡ q) × (o ≡ p) × (l ≡ j)
+call-determined r m k t b x y n i s q o p l j u v =
     (u .0 ∙ sym (v .0), u .1 ∙ sym (v .1), u .2 ∙ sym (v .2), u .3 ∙ sym (v .3), u .4 ∙ sym (v .4))

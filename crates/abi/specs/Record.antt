@@ -17,10 +17,10 @@ use Rattle.machine.specs.declared.State.{State}
 -- ---- a state from a record, by offset
 
 abbrev pub wordAt : List ℕ → ℕ → ℕ
-wordAt r a = loadOf Width.Word r a
+wordAt r a = loadOf Width.Word r (record { 0 = a })
 
 abbrev pub flagAt : List ℕ → ℕ → Bool
-flagAt r a = ltb 0 (loadOf Width.Byte r a)
+flagAt r a = ltb 0 (loadOf Width.Byte r (record { 0 = a }))
 
 -- n of them from a on, k bytes apart
 unfoldable pub each : {A : Type 0} → (ℕ → A) → ℕ → ℕ → ℕ → List A

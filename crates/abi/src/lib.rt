@@ -70,7 +70,8 @@ fn control_at(r: &[u8]) -> Control
     }
 }
 
-fn state_at(r: &[u8]) -> State
+// The state that a record holds.
+pub fn state_at(r: &[u8]) -> State
     ensures { λ s. ⌜ s ≡ stateAt (now (r .entry)) ⌝ }
 {
     State {
@@ -188,12 +189,12 @@ pub extern "C" fn manik_run(
     ensures { λ _. ⌜ now (marks .exit) ≡ called (now (state .entry)) (now (mem .entry)) (now (marks .entry)) (now (tape .entry)) budget .marks ⌝ }
 {
     if is_shaped(state) {
-        let ended = machine::run(budget as usize, tape, state_at(state), mem, marks);
+        let ended = machine::run::run(budget as usize, tape, state_at(state), mem, marks);
         let reply = ended.reply;
         let after = ended.state;
         *steps = ended.steps as u64;
         put_state(state, after);
-        return machine::number(reply);
+        return instruction::number(reply);
     }
     *steps = 0;
     0

@@ -2,12 +2,10 @@
 -- Assumes nothing.
 use Prim.Native.Nat.{ℕ, _+_, _*_, _/_, _%_}
 use mathlib.Core.Bool.{Bool, true, false, cond, not, Bool·beq, _&&_, _||_}
-use mathlib.Core.List.{List, [], _∷_}
 use lib.Dec.{eqb, leb}
 use lib.Bits.{bitAnd, bitOr, bitXor}
-use lib.ListN.{getD}
 use Rattle.word.specs.Bits.{on, fieldOf, withField, withBit}
-use Rattle.word.specs.Numbers.{wrap, sumOf, carryOf, differenceOf, borrowOf, productOf, lslOf, lsrOf, asrOf, lessOf, extendOf}
+use Rattle.word.specs.Numbers.{sumOf, carryOf, differenceOf, borrowOf, productOf, lslOf, lsrOf, asrOf, lessOf, extendOf}
 use Rattle.word.specs.Bytes.{bytesOf}
 use Rattle.word.specs.Addresses.{jumpSum, byteSum, alignedOf}
 use Rattle.word.specs.declared.ByteAddr.{ByteAddr}
@@ -22,30 +20,28 @@ use Rattle.isa.specs.declared.ImmOp.{ImmOp}
 use Rattle.isa.specs.declared.ShortOp.{ShortOp}
 use Rattle.isa.specs.declared.LongOp.{LongOp}
 use Rattle.isa.specs.declared.Instr.{Instr}
-use Rattle.cpu.specs.Control.{withPc, withPsw, withRa, withIpc, withTimer, withIbase, withUsreg, withHwdbg, withBp0, withBp1, withWp0, withWp1, tf, cy, withTf, withCy, sfrOf}
-use Rattle.cpu.specs.Entries.{swintEntry}
+use Rattle.cpu.specs.Control.{pcOf, withPc, withSfr, withPsw, withHwdbg, withTimer, tf, cy, withTf, withCy, sfrOf}
 use Rattle.cpu.specs.declared.Control.{Control}
 use Rattle.cpu.specs.declared.Effect.{Effect}
-use Rattle.cpu.specs.declared.Operands.{Operands}
-use Rattle.cpu.specs.declared.Reach.{Reach}
+use Rattle.cpu.specs.declared.Sources.{Sources}
 
 -- ---- the program counter
 
 -- on to the next instruction, n bytes further
 unfoldable pub onward : ℕ → Control → Control
-onward n c = withPc c (wrap (c .pc + n))
+onward n c = withPc c (byteSum (pcOf c) n)
 
 -- "Register jumps, jsfr among them, drop bit 0"
 unfoldable pub goTo : ℕ → Control → Control
-goTo a c = withPc c (a / 2 * 2)
+goTo a c = withPc c (alignedOf Width.Half (record { 0 = a }))
 
 -- "jl and jrl set RA to the program counter + 4"
 unfoldable pub linked : Control → Control
-linked c = withRa c (wrap (c .pc + 4))
+linked c = withSfr 1 c (byteSum (pcOf c) 4 .0)
 
 -- "the base is the jump's .. own address"
 unfoldable pub jump : HalfDisp → Control → Control
-jump d c = withPc c (jumpSum (record { 0 = c .pc }) d .0)
+jump d c = withPc c (jumpSum (pcOf c) d)
 
 -- TF says what the instruction wants
 abbrev pub wants : Bool → Control → Bool
@@ -151,24 +147,13 @@ timerWritten v c = cond (accepted c) (withTimer c v false) c
 unfoldable pub pswWritten : ℕ → ℕ → ℕ
 pswWritten p v = withField (withField (withField v 12 1 (fieldOf p 12 1)) 14 2 (fieldOf p 14 2)) 26 6 (fieldOf p 26 6)
 
--- SFR 0 to 10 written, one after the other; "mtsfr hwdbg writes bits 2 to 5 only"
-abbrev pub writtenRow : ℕ → Control → List Control
-writtenRow v c =
-    withPsw c (pswWritten (c .psw) v)
-    ∷ withRa c v
-    ∷ withIpc c v
-    ∷ timerWritten v c
-    ∷ withIbase c v
-    ∷ withUsreg c v
-    ∷ withHwdbg c (withField (c .hwdbg) 2 4 (fieldOf v 2 4))
-    ∷ withBp0 c v
-    ∷ withBp1 c v
-    ∷ withWp0 c v
-    ∷ withWp1 c v
-    ∷ []
-
+-- SFR n written; "mtsfr hwdbg writes bits 2 to 5 only", and there is none past 10
 unfoldable pub written : ℕ → ℕ → Control → Control
-written n v c = getD (writtenRow v c) n c
+written n v c =
+    cond (eqb n 0) (withPsw c (pswWritten (c .psw) v))
+    (cond (eqb n 3) (timerWritten v c)
+    (cond (eqb n 6) (withHwdbg c (withField (c .hwdbg) 2 4 (fieldOf v 2 4)))
+    (withSfr n c v)))
 
 -- "On jsfr of IPC, IP becomes 0"
 unfoldable pub leave : ℕ → Control → Control
@@ -176,85 +161,72 @@ leave n c = cond (eqb n 2) (withPsw c (withBit (c .psw) 3 false)) c
 
 -- ---- instructions
 
--- a register and its value, and the next instruction of two bytes; or no register (there are sixteen)
-abbrev pub sets : ℕ → ℕ → Control → Effect
-sets d v c = record { control = onward 2 c; reg = d; value = v; wrote = false }
+-- there are sixteen registers, so 16 is none
+abbrev pub noReg : ℕ
+noReg = 16
+
+-- a register and its value, and the next instruction of two bytes; or no register
+abbrev pub putsReg : ℕ → ℕ → Control → Effect
+putsReg d v c = record { control = onward 2 c; reg = d; value = v; wrote = false }
 
 abbrev pub moves : Control → Effect
-moves c = record { control = c; reg = 16; value = 0; wrote = false }
+moves c = record { control = c; reg = noReg; value = 0; wrote = false }
 
 -- mtsfr; "an accepted write .. takes the place of that step's fall", so wrote says whether TIMER was written
 abbrev pub writesSfr : ℕ → ℕ → Control → Effect
-writesSfr n v c = record { control = onward 2 (written n v c); reg = 16; value = 0; wrote = eqb n 3 && accepted c }
+writesSfr n v c = record { control = onward 2 (written n v c); reg = noReg; value = 0; wrote = eqb n 3 && accepted c }
 
+-- What an instruction does, but for memory and the entry that it makes (crate instruction, `reachOf`).
 -- x is the register that the guide calls Rd, y the one that it calls Rb, as far as the instruction reads them; v is what it loads
 unfoldable pub exec : Instr → ℕ → ℕ → ℕ → Control → Effect
-exec (Instr.Alu op d b) x y v c = sets d (aluOf op x y (cy c)) (carried op x y c)
-exec (Instr.ShiftImm op d n) x y v c = sets d (shiftOf op x n) c
+exec (Instr.Alu op d b) x y v c = putsReg d (aluOf op x y (cy c)) (carried op x y c)
+exec (Instr.ShiftImm op d n) x y v c = putsReg d (shiftOf op x n) c
 exec (Instr.Cmp op d b) x y v c = moves (onward 2 (withTf c (cmpOf op x y)))
 exec (Instr.CmpImm op d n) x y v c = moves (onward 2 (withTf c (cmpImmOf op x n)))
-exec (Instr.Cond op t d b) x y v c = sets d (cond (wants t c) (condOf op x y) x) c
-exec (Instr.CondImm t d n) x y v c = sets d (cond (wants t c) (sumOf x n false) x) c
-exec (Instr.Ldrpc d n) x y v c = sets d v c
-exec (Instr.Imm op d n) x y v c = sets d (immValue op x n) c
-exec (Instr.Load w d n b) x y v c = sets d v c
+exec (Instr.Cond op t d b) x y v c = putsReg d (cond (wants t c) (condOf op x y) x) c
+exec (Instr.CondImm t d n) x y v c = putsReg d (cond (wants t c) (sumOf x n false) x) c
+exec (Instr.Ldrpc d n) x y v c = putsReg d v c
+exec (Instr.Imm op d n) x y v c = putsReg d (immValue op x n) c
+exec (Instr.Load w d n b) x y v c = putsReg d v c
 exec (Instr.Store w d n b) x y v c = moves (onward 2 c)
-exec (Instr.Mfsfr d n) x y v c = sets d (sfrOf n c) c
+exec (Instr.Mfsfr d n) x y v c = putsReg d (sfrOf n c) c
 exec (Instr.Mtsfr n b) x y v c = writesSfr n y c
 exec (Instr.Jr b) x y v c = moves (goTo y c)
 exec (Instr.Jrl b) x y v c = moves (goTo y (linked c))
 exec (Instr.Jsfr n) x y v c = moves (goTo (sfrOf n c) (leave n c))
-exec (Instr.Swint n) x y v c = moves (swintEntry n (onward 2 c))
+exec (Instr.Swint n) x y v c = moves (onward 2 c)
 exec (Instr.ShortJump op d) x y v c = moves (shortJump op d c)
 exec (Instr.LongJump op d) x y v c = moves (longJump op d c)
 
--- ---- memory
+-- ---- operands and addresses
 
--- the registers that give x and y; 0 where the instruction reads none
-abbrev pub two : ℕ → ℕ → Operands
+-- the registers that give x and y; any register where the instruction does not look at it
+abbrev pub unread : ℕ
+unread = 0
+
+abbrev pub two : ℕ → ℕ → Sources
 two a b = record { first = a; second = b }
 
-unfoldable pub operandsOf : Instr → Operands
-operandsOf (Instr.Alu op d b) = two d b
-operandsOf (Instr.ShiftImm op d n) = two d 0
-operandsOf (Instr.Cmp op d b) = two d b
-operandsOf (Instr.CmpImm op d n) = two d 0
-operandsOf (Instr.Cond op t d b) = two d b
-operandsOf (Instr.CondImm t d n) = two d 0
-operandsOf (Instr.Ldrpc d n) = two 0 0
-operandsOf (Instr.Imm op d n) = two d 0
-operandsOf (Instr.Load w d n b) = two 0 b
-operandsOf (Instr.Store w d n b) = two d b
-operandsOf (Instr.Mfsfr d n) = two 0 0
-operandsOf (Instr.Mtsfr n b) = two 0 b
-operandsOf (Instr.Jr b) = two 0 b
-operandsOf (Instr.Jrl b) = two 0 b
-operandsOf (Instr.Jsfr n) = two 0 0
-operandsOf (Instr.Swint n) = two 0 0
-operandsOf (Instr.ShortJump op d) = two 0 0
-operandsOf (Instr.LongJump op d) = two 0 0
+unfoldable pub sourcesOf : Instr → Sources
+sourcesOf (Instr.Alu op d b) = two d b
+sourcesOf (Instr.ShiftImm op d n) = two d unread
+sourcesOf (Instr.Cmp op d b) = two d b
+sourcesOf (Instr.CmpImm op d n) = two d unread
+sourcesOf (Instr.Cond op t d b) = two d b
+sourcesOf (Instr.CondImm t d n) = two d unread
+sourcesOf (Instr.Ldrpc d n) = two unread unread
+sourcesOf (Instr.Imm op d n) = two d unread
+sourcesOf (Instr.Load w d n b) = two unread b
+sourcesOf (Instr.Store w d n b) = two d b
+sourcesOf (Instr.Mfsfr d n) = two unread unread
+sourcesOf (Instr.Mtsfr n b) = two unread b
+sourcesOf (Instr.Jr b) = two unread b
+sourcesOf (Instr.Jrl b) = two unread b
+sourcesOf (Instr.Jsfr n) = two unread unread
+sourcesOf (Instr.Swint n) = two unread unread
+sourcesOf (Instr.ShortJump op d) = two unread unread
+sourcesOf (Instr.LongJump op d) = two unread unread
 
 -- "EA = zxt(UIMM4 << size) + Rb" and "PC + UIMM8 << 2" (the guide), aligned down after the sum
 unfoldable pub dataAddress : Width → ℕ → ℕ → ByteAddr
 dataAddress w base n = alignedOf w (byteSum (record { 0 = base }) (n * bytesOf w))
-
--- where an instruction reaches memory
-unfoldable pub reachOf : Instr → ℕ → Control → Reach
-reachOf (Instr.Alu op d b) y c = Reach.Nowhere
-reachOf (Instr.ShiftImm op d n) y c = Reach.Nowhere
-reachOf (Instr.Cmp op d b) y c = Reach.Nowhere
-reachOf (Instr.CmpImm op d n) y c = Reach.Nowhere
-reachOf (Instr.Cond op t d b) y c = Reach.Nowhere
-reachOf (Instr.CondImm t d n) y c = Reach.Nowhere
-reachOf (Instr.Ldrpc d n) y c = Reach.Reads Width.Word (dataAddress Width.Word (c .pc) n)
-reachOf (Instr.Imm op d n) y c = Reach.Nowhere
-reachOf (Instr.Load w d n b) y c = Reach.Reads w (dataAddress w y n)
-reachOf (Instr.Store w d n b) y c = Reach.Writes w (dataAddress w y n)
-reachOf (Instr.Mfsfr d n) y c = Reach.Nowhere
-reachOf (Instr.Mtsfr n b) y c = Reach.Nowhere
-reachOf (Instr.Jr b) y c = Reach.Nowhere
-reachOf (Instr.Jrl b) y c = Reach.Nowhere
-reachOf (Instr.Jsfr n) y c = Reach.Nowhere
-reachOf (Instr.Swint n) y c = Reach.Nowhere
-reachOf (Instr.ShortJump op d) y c = Reach.Nowhere
-reachOf (Instr.LongJump op d) y c = Reach.Nowhere

@@ -7,7 +7,7 @@ use native.Mathlib.Omega.{arith}
 use lib.Dec.{T, ltb, lit<, lit≤}
 use borrow.Author.Tests.{lt-ltb, le-ltb}
 use Rattle.word.specs.declared.Width.{Width}
-use Rattle.isa.specs.Codes.{at, kindOf, fixedRow, jumpRow, shiftNo, aluNo, cmpNo, cmpImmNo, condNo, condImmNo, immNo, loadNo, storeNo, shortNo, longNo}
+use Rattle.isa.specs.Codes.{kindIn, kindOf, fixedRow, jumpRow, shiftNo, aluNo, cmpNo, cmpImmNo, condNo, condImmNo, immNo, loadNo, storeNo, shortNo, longNo}
 use Rattle.isa.specs.declared.AluOp.{AluOp}
 use Rattle.isa.specs.declared.ShiftOp.{ShiftOp}
 use Rattle.isa.specs.declared.CmpOp.{CmpOp}
@@ -107,7 +107,7 @@ unfolding kindOf
 jsfr = code tt tt refl
 
 -- 0x4? to 0xd?: the second nibble is an operand
-pub fixed : (a b : ℕ) → 4 ≤ a → a < 14 → b < 16 → Code a b (at fixedRow (a - 4))
+pub fixed : (a b : ℕ) → 4 ≤ a → a < 14 → b < 16 → Code a b (kindIn fixedRow (a - 4))
 unfolding kindOf
 fixed a b h4 h14 hb =
     let e : (a * 16 + b) / 16 - 4 ≡ a - 4 = omega arith in
@@ -132,7 +132,7 @@ store Width.Half b h = fixed 11 b (lit≤ tt) (lit≤ tt) h
 store Width.Byte b h = fixed 13 b (lit≤ tt) (lit≤ tt) h
 
 -- 0xe0 to 0xff: a code of six bits, and two bits of the displacement
-jump : (q m : ℕ) → 56 ≤ q → m < 4 → kindOf (q * 4 + m) ≡ at jumpRow (q - 56)
+jump : (q m : ℕ) → 56 ≤ q → m < 4 → kindOf (q * 4 + m) ≡ kindIn jumpRow (q - 56)
 unfolding kindOf
 jump q m h56 hm =
     let e : (q * 4 + m) / 4 - 56 ≡ q - 56 = omega arith in

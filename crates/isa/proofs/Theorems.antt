@@ -9,7 +9,7 @@ use borrow.Author.Tests.{lt-ltb, le-ltb, eqb-true}
 use Rattle.isa.specs.Decode.{decodeOf}
 use Rattle.isa.specs.Encode.{encodeOf}
 use Rattle.isa.specs.Range.{inRange}
-use Rattle.isa.specs.Statements.{hasBits, DecodesTo, EncodesTo, sizeOf, restOf, boundOf, named, sizeBy}
+use Rattle.isa.specs.Statements.{hasBits, DecodesTo, EncodesTo, sizeOf, lowPart, boundOf, named, sizeBy}
 use Rattle.isa.specs.declared.Instr.{Instr}
 use Rattle.isa.specs.declared.Decoded.{Decoded}
 use Rattle.isa.specs.declared.Encoded.{Encoded}
@@ -98,7 +98,7 @@ unnamed-is-nothing h s hh e = none (decodeOf h s) (size h s hh ∙ rw e)
 -- .. so nothing from 0xfc00 on is one, nor is udi0 to udi3, nor mfsfr or mtsfr of SFR 11 to 15.
 module _ (h s : ℕ) (hh : h < 65536) where
   unbound : boundOf (h / 256) ≡ 0 → decodeOf h s ≡ Decoded.Nothing
-  unbound e = unnamed-is-nothing h s hh (ap (ltb (restOf (h / 256) h)) e ∙ le-ltb (restOf (h / 256) h) 0 (omega arith))
+  unbound e = unnamed-is-nothing h s hh (ap (ltb (lowPart (h / 256) h)) e ∙ le-ltb (lowPart (h / 256) h) 0 (omega arith))
 
   pub none-from-fc00 : 0xfc00 ≤ h → decodeOf h s ≡ Decoded.Nothing
   none-from-fc00 l =

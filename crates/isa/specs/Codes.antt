@@ -18,8 +18,8 @@ use Rattle.isa.specs.declared.LongOp.{LongOp}
 use Rattle.isa.specs.declared.Kind.{Kind}
 
 -- what stands at a place of a row; past its end, nothing
-abbrev pub at : List Kind → ℕ → Kind
-at row b = getD row b Kind.Nothing
+abbrev pub kindIn : List Kind → ℕ → Kind
+kindIn row b = getD row b Kind.Nothing
 
 -- 0x0?: "Multiply and Shift Instructions", by an immediate; 0x08 to 0x0b are udi0 to udi3, which are not built
 abbrev pub shiftRow : List Kind
@@ -143,10 +143,10 @@ longNo LongOp.Jl = 0x3e
 
 -- 0x0? to 0x3?: the low nibble is part of the code
 abbrev pub lowKind : ℕ → ℕ → Kind
-lowKind a b = at (at shiftRow b ∷ at systemRow b ∷ at aluRow b ∷ at testRow b ∷ []) a
+lowKind a b = kindIn (kindIn shiftRow b ∷ kindIn systemRow b ∷ kindIn aluRow b ∷ kindIn testRow b ∷ []) a
 
 -- the kind of a first byte
 unfoldable pub kindOf : ℕ → Kind
 kindOf n =
     cond (ltb n 64) (lowKind (n / 16) (n % 16))
-    (cond (ltb n 224) (at fixedRow (n / 16 - 4)) (at jumpRow (n / 4 - 56)))
+    (cond (ltb n 224) (kindIn fixedRow (n / 16 - 4)) (kindIn jumpRow (n / 4 - 56)))

@@ -36,8 +36,8 @@ sizeOf Decoded.Nothing = 0
 
 -- Every first half that document 01 and the guide name, by its first byte n: the rest of the half, its low byte, or its low nibble for mfsfr,
 -- is below a bound. 0 says that no half with this first byte is named: 0x00 to 0x07, udi0 to udi3, 0x11, 0x14 to 0x1b, 0x1f, 0xfc to 0xff.
-abbrev pub restOf : ℕ → ℕ → ℕ
-restOf n h = cond (eqb n 0x12) (h % 16) (h % 256)
+abbrev pub lowPart : ℕ → ℕ → ℕ
+lowPart n h = cond (eqb n 0x12) (h % 16) (h % 256)
 
 abbrev pub boundOf : ℕ → ℕ
 boundOf n =
@@ -54,7 +54,7 @@ boundOf n =
     (cond (ltb n 0xfc) 256 0))))))))))
 
 abbrev pub named : ℕ → Bool
-named h = ltb (restOf (h / 256) h) (boundOf (h / 256))
+named h = ltb (lowPart (h / 256) h) (boundOf (h / 256))
 
 -- jf, jt, j and jl have four bytes: top six bits 111000, 111010, 111100, 111110
 abbrev pub isLong : ℕ → Bool

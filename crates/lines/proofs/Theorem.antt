@@ -1,16 +1,20 @@
 -- Document 01's sixteen lines hold: one statement, by computation over the table.
 -- Assumes nothing.
 use Prim.Native.Nat.{ℕ}
-use mathlib.Core.Path.{_≡_}
+use mathlib.Core.Path.{_≡_, refl}
 use mathlib.Core.List.{map}
 use native.Mathlib.Nat.{div-one}
 use Rattle.word.specs.Bits.{put}
 use Rattle.isa.specs.Codes.{kindOf}
 use Rattle.isa.specs.Decode.{operandsOf, decodeOf}
-use Rattle.cpu.specs.Control.{withPc, withPsw}
-use Rattle.cpu.specs.Exec.{aluOf, carried, cmpOf, dataAddress, reachOf}
-use Rattle.lines.specs.Lines.{lines, given, says}
+use Rattle.cpu.specs.Control.{withPc, withSfr}
+use Rattle.cpu.specs.Exec.{onward, linked, jump, branch, aluOf, carried, cmpOf, exec, dataAddress}
+use Rattle.instruction.specs.Act.{reachOf}
+use Rattle.lines.specs.Lines.{Line, lines, sixteen}
 
-pub sixteen-lines : (x : ℕ) → map given (lines x) ≡ map says (lines x)
-unfolding decodeOf operandsOf kindOf aluOf carried cmpOf reachOf dataAddress withPc withPsw put
-sixteen-lines x = rw (div-one x)
+-- There are sixteen lines, numbered 1 to 16, and each gives what the document says.
+pub sixteen-lines : (x : ℕ)
+    → (map (λ (l : Line). l .number) (lines x) ≡ sixteen)
+    × (map (λ (l : Line). l .given) (lines x) ≡ map (λ (l : Line). l .says) (lines x))
+unfolding decodeOf operandsOf kindOf aluOf carried cmpOf exec onward linked jump branch reachOf dataAddress withPc withSfr put
+sixteen-lines x = (refl, rw (div-one x))

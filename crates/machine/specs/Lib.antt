@@ -1,7 +1,5 @@
 pub mod State
-pub mod Fetch
 pub mod Step
 pub mod Run
 pub mod Trace
-pub mod Form
-pub mod Cut
+pub mod Parts

@@ -7,12 +7,11 @@ use lib.Dec.{ltb, eqb}
 use lib.ListN.{length, getD, take}
 use Rattle.marks.specs.Memory.{badMark}
 use Rattle.word.specs.Bytes.{anyAbove}
+use Rattle.instruction.specs.declared.Reply.{Reply}
 use Rattle.machine.specs.State.{outOfForm}
-use Rattle.machine.specs.Step.{stepOf, after}
+use Rattle.machine.specs.Step.{Stepped, stopped, completed, stepOf, after}
 use Rattle.machine.specs.declared.State.{State}
-use Rattle.machine.specs.declared.Reply.{Reply}
 use Rattle.machine.specs.declared.Judged.{Judged}
-use Rattle.machine.specs.declared.Out.{Out}
 use Rattle.machine.specs.declared.Ended.{Ended}
 
 pub record Final : Type 0 where
@@ -38,16 +37,15 @@ judge b t s m k =
     (cond (anyAbove 63 (take b t)) (Judged.Refused Reply.TapeByte)
     Judged.Good)))))
 
--- n steps are made, and the next one turned out so: it stops, with the state before it, or it is completed and the run goes on
-unfoldable pub goOn : (State → List ℕ → List ℕ → Final) → ℕ → State → Out → List ℕ → List ℕ → Final
-goOn rest n s (Out.Stop r) m k = final r n s m k
-goOn rest n s (Out.Go d) m k = rest (after d s) m k
+-- n steps are made, and then s, m and k are there; the next step stops and changes nothing, or is completed and the run goes on
+unfoldable pub goOn : (State → List ℕ → List ℕ → Final) → ℕ → State → List ℕ → List ℕ → Stepped → Final
+goOn rest n s m k (stopped r) = final r n s m k
+goOn rest n s m k (completed d l j x) = rest (after d s) l j
 
 -- b more steps may be made
 unfoldable pub stepsOf : ℕ → ℕ → List ℕ → State → List ℕ → List ℕ → Final
 stepsOf zero n t s m k = final Reply.Budget n s m k
-stepsOf (suc b) n t s m k =
-    goOn (stepsOf b (n + 1) t) n s (stepOf (getD t n 0) s m k .out) (stepOf (getD t n 0) s m k .mem) (stepOf (getD t n 0) s m k .marks)
+stepsOf (suc b) n t s m k = goOn (stepsOf b (n + 1) t) n s m k (stepOf (getD t n 0) s m k)
 
 -- "Replies 1 to 6 return steps 0 and leave state, memory and marks as given"
 abbrev pub judged : Judged → ℕ → List ℕ → State → List ℕ → List ℕ → Final

@@ -10,11 +10,11 @@ use Rattle.word.specs.declared.Width.{Width}
 
 -- a byte of the access is marked
 abbrev pub markedAt : Width → List ℕ → ByteAddr → Bool
-markedAt w k a = anyOf w k (a .0)
+markedAt w k a = anyOf w k a
 
 -- "A stored byte takes the register's mark, so an unmarked store clears one"
 abbrev pub markAll : Width → List ℕ → ByteAddr → Bool → List ℕ
-markAll w k a m = fillOf w k (a .0) (num m)
+markAll w k a m = fillOf w k a (num m)
 
 -- refusal 3: "a mark byte above 1"
 abbrev pub badMark : List ℕ → Bool

@@ -1,6 +1,6 @@
 // Marks: which operands stop an instruction, which results become marked, and the marks of memory.
 ghost use mathlib.Core.Path.{_≡_};
-ghost use mathlib.Core.Bool.{false, _||_};
+ghost use mathlib.Core.Bool.{false, cond, _||_};
 ghost use Rattle.isa.specs.declared.Instr.{Instr};
 ghost use Rattle.word.specs.Bits.{num};
 ghost use Rattle.marks.specs.Marks.{aluMark, aluFlags, condMark, immMark, sfrMark, with, taint, shortBlocked, longBlocked};
@@ -28,59 +28,62 @@ pub struct Taint {
 // ---- registers, TF and CY
 
 // A register's mark alone.
-pub fn mark_reg(m: bool, f: Flags) -> Taint
-    ensures { λ r. ⌜ r ≡ with m f ⌝ }
-{
-    Taint { reg: m, flags: f }
-}
-
-// A register's mark, and CY's likewise.
-fn mark_sum(m: bool, f: Flags) -> Taint
-    ensures { λ r. ⌜ r ≡ with m (record { tf = f .tf; cy = m }) ⌝ }
+pub fn mark_reg(m: bool, tf: bool, cy: bool) -> Taint
+    ensures { λ r. ⌜ r ≡ with m (record { tf = tf; cy = cy }) ⌝ }
 {
     Taint {
         reg: m,
-        flags: Flags { tf: f.tf, cy: m },
+        flags: Flags { tf, cy },
+    }
+}
+
+// A register's mark, and CY's likewise.
+fn mark_sum(m: bool, tf: bool, cy: bool) -> Taint
+    ensures { λ r. ⌜ r ≡ with m (record { tf = tf; cy = m }) ⌝ }
+{
+    Taint {
+        reg: m,
+        flags: Flags { tf, cy: m },
     }
 }
 
 // Two sources.
-fn mark_two(mx: bool, my: bool, f: Flags) -> Taint
-    ensures { λ r. ⌜ r ≡ with (mx || my) f ⌝ }
+fn mark_two(mx: bool, my: bool, tf: bool, cy: bool) -> Taint
+    ensures { λ r. ⌜ r ≡ with (mx || my) (record { tf = tf; cy = cy }) ⌝ }
 {
-    mark_reg(word::either(mx, my), f)
+    mark_reg(word::either(mx, my), tf, cy)
 }
 
-pub fn mark_alu(op: AluOp, mx: bool, my: bool, f: Flags) -> Taint
-    ensures { λ r. ⌜ r ≡ taint (Instr.Alu op 0 0) mx my false false f ⌝ }
+pub fn mark_alu(op: AluOp, mx: bool, my: bool, tf: bool, cy: bool) -> Taint
+    ensures { λ r. ⌜ r ≡ taint (Instr.Alu op 0 0) mx my false false (record { tf = tf; cy = cy }) ⌝ }
 {
     match op {
-        AluOp::Sub => mark_sum(word::either(mx, my), f),
-        AluOp::Add => mark_sum(word::either(mx, my), f),
-        AluOp::Subc => mark_sum(word::either(word::either(mx, my), f.cy), f),
-        AluOp::Addc => mark_sum(word::either(word::either(mx, my), f.cy), f),
-        AluOp::Mov => mark_reg(my, f),
-        AluOp::And => mark_two(mx, my, f),
-        AluOp::Or => mark_two(mx, my, f),
-        AluOp::Xor => mark_two(mx, my, f),
-        AluOp::Sxb => mark_reg(my, f),
-        AluOp::Xhw => mark_reg(my, f),
-        AluOp::Sxh => mark_reg(my, f),
-        AluOp::Zxh => mark_reg(my, f),
-        AluOp::Lsl => mark_two(mx, my, f),
-        AluOp::Lsr => mark_two(mx, my, f),
-        AluOp::Asr => mark_two(mx, my, f),
-        AluOp::Mult => mark_two(mx, my, f),
+        AluOp::Sub => mark_sum(word::either(mx, my), tf, cy),
+        AluOp::Add => mark_sum(word::either(mx, my), tf, cy),
+        AluOp::Subc => mark_sum(word::either(word::either(mx, my), cy), tf, cy),
+        AluOp::Addc => mark_sum(word::either(word::either(mx, my), cy), tf, cy),
+        AluOp::Mov => mark_reg(my, tf, cy),
+        AluOp::And => mark_two(mx, my, tf, cy),
+        AluOp::Or => mark_two(mx, my, tf, cy),
+        AluOp::Xor => mark_two(mx, my, tf, cy),
+        AluOp::Sxb => mark_reg(my, tf, cy),
+        AluOp::Xhw => mark_reg(my, tf, cy),
+        AluOp::Sxh => mark_reg(my, tf, cy),
+        AluOp::Zxh => mark_reg(my, tf, cy),
+        AluOp::Lsl => mark_two(mx, my, tf, cy),
+        AluOp::Lsr => mark_two(mx, my, tf, cy),
+        AluOp::Asr => mark_two(mx, my, tf, cy),
+        AluOp::Mult => mark_two(mx, my, tf, cy),
     }
 }
 
 // A compare marks TF.
-pub fn mark_tf(m: bool, f: Flags) -> Taint
-    ensures { λ r. ⌜ r ≡ with false (record { tf = m; cy = f .cy }) ⌝ }
+pub fn mark_tf(m: bool, tf: bool, cy: bool) -> Taint
+    ensures { λ r. ⌜ r ≡ with false (record { tf = m; cy = cy }) ⌝ }
 {
     Taint {
         reg: false,
-        flags: Flags { tf: m, cy: f.cy },
+        flags: Flags { tf: m, cy },
     }
 }
 
@@ -94,70 +97,60 @@ fn cond_sources(op: CondOp, mx: bool, my: bool) -> bool
     }
 }
 
-// s is TF, t what the instruction wants of it.
-pub fn mark_conditional(op: CondOp, t: bool, s: bool, mx: bool, my: bool, f: Flags) -> Taint
-    ensures { λ r. ⌜ r ≡ taint (Instr.Cond op t 0 0) mx my false s f ⌝ }
+// wanted: TF says what the instruction wants.
+pub fn mark_conditional(op: CondOp, wanted: bool, mx: bool, my: bool, tf: bool, cy: bool) -> Taint
+    ensures { λ r. ⌜ r ≡ with (tf || cond wanted (condMark op mx my) mx) (record { tf = tf; cy = cy }) ⌝ }
 {
     let sources = cond_sources(op, mx, my);
-    if word::same(s, t) {
-        return mark_reg(word::either(f.tf, sources), f);
+    if wanted {
+        return mark_reg(word::either(tf, sources), tf, cy);
     }
-    mark_reg(word::either(f.tf, mx), f)
+    mark_reg(word::either(tf, mx), tf, cy)
 }
 
-pub fn mark_imm(op: ImmOp, mx: bool, f: Flags) -> Taint
-    ensures { λ r. ⌜ r ≡ taint (Instr.Imm op 0 0) mx false false false f ⌝ }
+pub fn mark_imm(op: ImmOp, mx: bool, tf: bool, cy: bool) -> Taint
+    ensures { λ r. ⌜ r ≡ taint (Instr.Imm op 0 0) mx false false false (record { tf = tf; cy = cy }) ⌝ }
 {
     match op {
-        ImmOp::And => mark_reg(mx, f),
-        ImmOp::Add => mark_reg(mx, f),
-        ImmOp::Mov => mark_reg(false, f),
+        ImmOp::And => mark_reg(mx, tf, cy),
+        ImmOp::Add => mark_reg(mx, tf, cy),
+        ImmOp::Mov => mark_reg(false, tf, cy),
     }
 }
 
-pub fn is_sfr_marked(n: u32, f: Flags) -> bool
-    ensures { λ r. ⌜ r ≡ sfrMark n f ⌝ }
+pub fn is_sfr_marked(n: u32, tf: bool, cy: bool) -> bool
+    ensures { λ r. ⌜ r ≡ sfrMark n (record { tf = tf; cy = cy }) ⌝ }
 {
-    if n == 0 {
-        word::either(f.tf, f.cy)
-    } else {
-        false
-    }
+    if n == 0 { word::either(tf, cy) } else { false }
 }
 
-pub fn mark_mtsfr(n: u32, f: Flags) -> Taint
-    ensures { λ r. ⌜ r ≡ taint (Instr.Mtsfr n 0) false false false false f ⌝ }
+pub fn mark_mtsfr(n: u32, tf: bool, cy: bool) -> Taint
+    ensures { λ r. ⌜ r ≡ taint (Instr.Mtsfr n 0) false false false false (record { tf = tf; cy = cy }) ⌝ }
 {
     if n == 0 {
-        return mark_reg(
-            false,
-            Flags {
-                tf: false,
-                cy: false,
-            },
-        );
+        return mark_reg(false, false, false);
     }
-    mark_reg(false, f)
+    mark_reg(false, tf, cy)
 }
 
 // ---- stop 14
 
-pub fn is_short_blocked(op: ShortOp, f: Flags) -> bool
-    ensures { λ r. ⌜ r ≡ shortBlocked op f ⌝ }
+pub fn is_short_blocked(op: ShortOp, tf: bool, cy: bool) -> bool
+    ensures { λ r. ⌜ r ≡ shortBlocked op (record { tf = tf; cy = cy }) ⌝ }
 {
     match op {
-        ShortOp::Sjf => f.tf,
-        ShortOp::Sjt => f.tf,
+        ShortOp::Sjf => tf,
+        ShortOp::Sjt => tf,
         ShortOp::Sj => false,
     }
 }
 
-pub fn is_long_blocked(op: LongOp, f: Flags) -> bool
-    ensures { λ r. ⌜ r ≡ longBlocked op f ⌝ }
+pub fn is_long_blocked(op: LongOp, tf: bool, cy: bool) -> bool
+    ensures { λ r. ⌜ r ≡ longBlocked op (record { tf = tf; cy = cy }) ⌝ }
 {
     match op {
-        LongOp::Jf => f.tf,
-        LongOp::Jt => f.tf,
+        LongOp::Jf => tf,
+        LongOp::Jt => tf,
         LongOp::J => false,
         LongOp::Jl => false,
     }

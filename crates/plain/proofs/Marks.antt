@@ -8,6 +8,7 @@ use lib.Dec.{eqb}
 use lib.ListN.{getD, set, replicate}
 use lib.Seq.{set-getD}
 use Rattle.word.specs.Bytes.{bytesOf, inside, fill, any, anyOf, fillOf}
+use Rattle.word.specs.declared.ByteAddr.{ByteAddr}
 use Rattle.word.specs.declared.Width.{Width}
 use Rattle.isa.specs.declared.AluOp.{AluOp}
 use Rattle.isa.specs.declared.CondOp.{CondOp}
@@ -15,12 +16,13 @@ use Rattle.isa.specs.declared.ImmOp.{ImmOp}
 use Rattle.isa.specs.declared.ShortOp.{ShortOp}
 use Rattle.isa.specs.declared.LongOp.{LongOp}
 use Rattle.isa.specs.declared.Instr.{Instr}
-use Rattle.cpu.specs.declared.Reach.{Reach}
+use Rattle.instruction.specs.declared.Reach.{Reach}
 use Rattle.marks.specs.Marks.{aluMark, aluFlags, condMark, immMark, sfrMark, with, taint, shortBlocked, longBlocked, blocked}
 use Rattle.marks.specs.Memory.{badMark}
 use Rattle.word.specs.Bytes.{anyAbove}
 use Rattle.marks.specs.declared.Flags.{Flags}
-use Rattle.machine.specs.Step.{loadedMark, markedTo}
+use Rattle.instruction.specs.Act.{loadedMark}
+use Rattle.machine.specs.Step.{markedTo}
 
 -- no mark on TF or CY
 abbrev pub none : Flags
@@ -58,26 +60,28 @@ module _ (k : List ℕ) (z : (i : ℕ) → getD k i 0 ≡ 0) where
   any-off zero a = refl
   any-off (suc n) a = rw (any-off n a, z (a + n))
 
-  pub anyOf-off : (w : Width) (a : ℕ) → anyOf w k a ≡ false
-  anyOf-off w a = rw (any-off (bytesOf w) a) (same (inside k a (bytesOf w)) false)
+  pub anyOf-off : (w : Width) (a : ByteAddr) → anyOf w k a ≡ false
+  anyOf-off w a = rw (any-off (bytesOf w) (a .0)) (same (inside k a (bytesOf w)) false)
 
   fill-kept : (n a : ℕ) → fill n k a 0 ≡ k
   unfolding fill
   fill-kept zero a = refl
   fill-kept (suc n) a = rw (fill-kept n a) (ap (set k (a + n)) (sym (z (a + n))) ∙ set-getD k (a + n) 0)
 
-  fillOf-kept : (w : Width) (a : ℕ) → fillOf w k a 0 ≡ k
-  fillOf-kept w a = rw (fill-kept (bytesOf w) a) (same (inside k a (bytesOf w)) k)
+  fillOf-kept : (w : Width) (a : ByteAddr) → fillOf w k a 0 ≡ k
+  fillOf-kept w a = rw (fill-kept (bytesOf w) (a .0)) (same (inside k a (bytesOf w)) k)
 
   pub loaded-off : (r : Reach) → loadedMark r k ≡ false
   loaded-off Reach.Nowhere = refl
-  loaded-off (Reach.Reads w a) = anyOf-off w (a .0)
+  loaded-off (Reach.Reads w a) = anyOf-off w a
   loaded-off (Reach.Writes w a) = refl
+  loaded-off (Reach.Raises n) = refl
 
   pub marked-kept : (r : Reach) → markedTo r false k ≡ k
   marked-kept Reach.Nowhere = refl
   marked-kept (Reach.Reads w a) = refl
-  marked-kept (Reach.Writes w a) = fillOf-kept w (a .0)
+  marked-kept (Reach.Writes w a) = fillOf-kept w a
+  marked-kept (Reach.Raises n) = refl
 
 -- ---- instructions
 

@@ -1,48 +1,37 @@
 -- No run of the machine without marks answers 12 or 14; so none with clean marks does.
 -- Assumes nothing.
-use Prim.Native.Nat.{ℕ, zero, suc, _+_, _/_, _%_}
+use Prim.Native.Nat.{ℕ, zero, suc, _+_, _%_}
 use mathlib.Core.Path.{_≡_, refl, ap, _∙_}
-use mathlib.Core.Bool.{Bool, true, false, cond, not}
+use mathlib.Core.Bool.{Bool, true, false, cond, not, _||_}
 use mathlib.Core.List.{List}
 use lib.Dec.{ltb, eqb}
 use lib.ListN.{length, getD, take}
-use Rattle.word.specs.Bytes.{inside}
-use Rattle.word.specs.Numbers.{wrap}
-use Rattle.isa.specs.Codes.{kindOf}
-use Rattle.isa.specs.Decode.{operandsOf as decoded}
-use Rattle.isa.specs.declared.Kind.{Kind}
+use Rattle.word.specs.Bytes.{inside, anyAbove}
+use Rattle.word.specs.declared.ByteAddr.{ByteAddr}
 use Rattle.isa.specs.declared.Decoded.{Decoded}
 use Rattle.isa.specs.declared.Instr.{Instr}
-use Rattle.cpu.specs.Exec.{operandsOf, reachOf}
-use Rattle.cpu.specs.declared.Reach.{Reach}
-use Rattle.word.specs.Bytes.{anyAbove}
+use Rattle.cpu.specs.Control.{pcOf}
+use Rattle.cpu.specs.Exec.{sourcesOf}
+use Rattle.instruction.specs.Reply.{numberOf}
+use Rattle.instruction.specs.Fetch.{afterHalf}
+use Rattle.instruction.specs.Act.{reachOf, outside}
+use Rattle.instruction.specs.Statements.{decodedAt}
+use Rattle.instruction.specs.declared.Reply.{Reply}
+use Rattle.instruction.specs.declared.Fetched.{Fetched}
+use Rattle.instruction.specs.declared.Reach.{Reach}
 use Rattle.machine.specs.State.{outOfForm}
-use Rattle.machine.specs.Fetch.{found, halfAt, isLongKind}
-use Rattle.machine.specs.Step.{chosen, outside}
+use Rattle.machine.specs.Step.{chosen}
 use Rattle.machine.specs.Run.{Final, badLength, runOf}
 use Rattle.machine.specs.declared.State.{State}
-use Rattle.machine.specs.declared.Reply.{Reply}
 use Rattle.machine.specs.declared.Event.{Event}
-use Rattle.machine.specs.declared.Fetched.{Fetched}
 use Rattle.machine.specs.declared.Judged.{Judged}
-use Rattle.plain.specs.Plain.{Core, valueOf, second, rest, fetch, Outcome, stopped, completed, act, perform, onFetched, onEvent, step, Result, refusal, goOn, stepsFrom, unlessRefused, run}
+use Rattle.plain.specs.Plain.{Core, valueOf, reached, decoded, fetch, Outcome, stopped, completed, act, perform, onFetched, onEvent, step, Result, refusal, goOn, stepsFrom, unlessRefused, run}
 use Rattle.plain.specs.Clean.{Clean, coreOf}
 use Rattle.plain.proofs.Same.{run-same}
 
--- the replies that marks make, of those inside a run
+-- the replies that marks make inside a run, by document 01's numbers
 abbrev pub byMarks : Reply → Bool
-byMarks Reply.MemoryLength = false
-byMarks Reply.MarkLength = false
-byMarks Reply.MarkByte = false
-byMarks Reply.Form = false
-byMarks Reply.TapeLength = false
-byMarks Reply.TapeByte = false
-byMarks Reply.Budget = false
-byMarks Reply.FetchOutside = false
-byMarks Reply.FetchMarked = true
-byMarks Reply.NoInstruction = false
-byMarks Reply.MarkedOperand = true
-byMarks Reply.DataOutside = false
+byMarks r = eqb (numberOf r) 12 || eqb (numberOf r) 14
 
 -- the same of a fetch, of a step, and of what the refusals leave; false where none stops
 abbrev inFetched : Fetched → Bool
@@ -61,24 +50,19 @@ either : {A : Type 0} (f : A → Bool) (c : Bool) (x y : A) → f x ≡ false �
 either f true x y p q = p
 either f false x y p q = q
 
-found-fine : (d : Decoded) → inFetched (found d) ≡ false
-found-fine (Decoded.Short i) = refl
-found-fine (Decoded.Long i) = refl
-found-fine Decoded.Nothing = refl
+reached-fine : (a : ByteAddr) (m : List ℕ) (x : Fetched) → inFetched x ≡ false → inFetched (reached a m x) ≡ false
+reached-fine a m x e = either inFetched (not (inside m a 2)) (Fetched.Stop Reply.FetchOutside) x refl e
 
-second-fine : (k : Kind) (h a : ℕ) (m : List ℕ) → inFetched (second k h a m) ≡ false
-unfolding second
-second-fine k h a m = either inFetched (not (inside m a 2)) _ _ refl (found-fine (decoded k h (halfAt m a)))
+decoded-fine : (d : Decoded) (b : ByteAddr) (m : List ℕ) → inFetched (decoded d b m) ≡ false
+decoded-fine (Decoded.Short i) b m = refl
+decoded-fine (Decoded.Long i) b m = reached-fine b m (Fetched.Run i) refl
+decoded-fine Decoded.Nothing b m = refl
 
-rest-fine : (k : Kind) (h a : ℕ) (m : List ℕ) → inFetched (rest k h a m) ≡ false
-unfolding rest
-rest-fine k h a m = either inFetched (isLongKind k) _ _ (second-fine k h (wrap (a + 2)) m) (found-fine (decoded k h 0))
-
-fetch-fine : (a : ℕ) (m : List ℕ) → inFetched (fetch a m) ≡ false
+fetch-fine : (a : ByteAddr) (m : List ℕ) → inFetched (fetch a m) ≡ false
 unfolding fetch
 fetch-fine a m =
-    either inFetched (eqb (a % 2) 1) _ _ refl
-    (either inFetched (not (inside m a 2)) _ _ refl (rest-fine (kindOf (halfAt m a / 256)) (halfAt m a) a m))
+    either inFetched (eqb (a .0 % 2) 1) _ _ refl
+    (reached-fine a m (decoded (decodedAt m a) (afterHalf a) m) (decoded-fine (decodedAt m a) (afterHalf a) m))
 
 act-fine : (i : Instr) (x y : ℕ) (r : Reach) (s : Core) (m : List ℕ) → inOutcome (act i x y r s m) ≡ false
 unfolding act
@@ -88,14 +72,12 @@ fetched-fine : (x : Fetched) (s : Core) (m : List ℕ) → inFetched x ≡ false
 unfolding perform
 fetched-fine (Fetched.Stop r) s m e = e
 fetched-fine (Fetched.Run i) s m e =
-    let y : ℕ = valueOf s (operandsOf i .second) in
-    act-fine i (valueOf s (operandsOf i .first)) y (reachOf i y (s .control)) s m
+    let y : ℕ = valueOf s (sourcesOf i .second) in
+    act-fine i (valueOf s (sourcesOf i .first)) y (reachOf i y (s .control)) s m
 
 event-fine : (v : Event) (s : Core) (m : List ℕ) → inOutcome (onEvent v s m) ≡ false
-event-fine Event.Timer s m = refl
-event-fine (Event.Line i) s m = refl
-event-fine Event.Break s m = refl
-event-fine Event.Instruction s m = fetched-fine (fetch (s .control .pc) m) s m (fetch-fine (s .control .pc) m)
+event-fine (Event.Enter e) s m = refl
+event-fine Event.Instruction s m = fetched-fine (fetch (pcOf (s .control)) m) s m (fetch-fine (pcOf (s .control)) m)
 
 step-fine : (t : ℕ) (s : Core) (m : List ℕ) → inOutcome (step t s m) ≡ false
 unfolding step

@@ -1,38 +1,38 @@
 -- With nothing marked, each step and each run of the machine with marks is that of the machine without, beside the same marks.
 -- Assumes nothing.
-use Prim.Native.Nat.{ℕ, zero, suc, _+_, _/_}
+use Prim.Native.Nat.{ℕ, zero, suc, _+_}
 use mathlib.Core.Path.{_≡_, refl, sym, ap₂, subst}
 use mathlib.Core.Bool.{Bool, true, false, cond, _&&_}
 use mathlib.Core.List.{List}
 use lib.ListN.{length, getD, set, replicate}
 use borrow.Author.Tests.{eq-eqb}
 use Rattle.word.specs.Bits.{on}
-use Rattle.word.specs.Numbers.{wrap}
+use Rattle.word.specs.declared.ByteAddr.{ByteAddr}
 use Rattle.word.specs.declared.Width.{Width}
-use Rattle.isa.specs.Codes.{kindOf}
-use Rattle.isa.specs.declared.Kind.{Kind}
+use Rattle.isa.specs.declared.Decoded.{Decoded}
 use Rattle.isa.specs.declared.Instr.{Instr}
-use Rattle.cpu.specs.Control.{tf}
-use Rattle.cpu.specs.Entries.{timerEntry, externalEntry, debugEntry}
-use Rattle.cpu.specs.Exec.{exec, operandsOf, reachOf}
+use Rattle.cpu.specs.Control.{pcOf, tf}
+use Rattle.cpu.specs.Entries.{entered}
+use Rattle.cpu.specs.Exec.{exec, sourcesOf}
 use Rattle.cpu.specs.declared.Control.{Control}
 use Rattle.cpu.specs.declared.Effect.{Effect}
-use Rattle.cpu.specs.declared.Reach.{Reach}
 use Rattle.marks.specs.Marks.{with}
 use Rattle.marks.specs.declared.Flags.{Flags}
+use Rattle.instruction.specs.Fetch.{guarded, found, fetchOf}
+use Rattle.instruction.specs.Act.{Val, reachOf, outside, loadedFrom, actOf}
+use Rattle.instruction.specs.Statements.{decodedAt}
+use Rattle.instruction.specs.declared.Reply.{Reply}
+use Rattle.instruction.specs.declared.Fetched.{Fetched}
+use Rattle.instruction.specs.declared.Reach.{Reach}
+use Rattle.instruction.specs.declared.Act.{Act}
 use Rattle.machine.specs.State.{valueAt}
-use Rattle.machine.specs.Fetch.{halfAt, secondOf, restOf, fetchOf}
-use Rattle.machine.specs.Step.{chosen, outside, loadedFrom, storedTo, actOf, doneOf, Stepped, actStep, instrStep, fetchStep, eventStep, stepOf, after, stopStep, entryStep}
+use Rattle.machine.specs.Step.{Stepped, stopped as halted, completed as made, chosen, storedTo, entryDone, doneOf, actStep, instrStep, fetchStep, eventStep, stepOf, after}
 use Rattle.machine.specs.Run.{Final, judge, goOn, stepsOf, judged, runOf}
 use Rattle.machine.specs.declared.State.{State}
-use Rattle.machine.specs.declared.Val.{Val}
-use Rattle.machine.specs.declared.Reply.{Reply}
 use Rattle.machine.specs.declared.Event.{Event}
-use Rattle.machine.specs.declared.Fetched.{Fetched}
-use Rattle.machine.specs.declared.Act.{Act}
-use Rattle.machine.specs.declared.Out.{Out}
 use Rattle.machine.specs.declared.Judged.{Judged}
-use Rattle.plain.specs.Plain.{Core, second, rest, fetch, Outcome, stopped, completed, changed, act, perform, onFetched, entered, onEvent, step, Result, refusal, stepsFrom, unlessRefused, run, goOn as goOnPlain}
+use Rattle.machine.specs.declared.Line.{Line}
+use Rattle.plain.specs.Plain.{Core, reached, decoded, fetch, Outcome, stopped, completed, changed, act, perform, onFetched, onEvent, step, Result, refusal, stepsFrom, unlessRefused, run, goOn as goOnPlain}
 use Rattle.plain.specs.Clean.{Clean, coreOf, beside}
 use Rattle.plain.proofs.Marks.{none, reg-off, reg-kept, above-off, anyOf-off, loaded-off, marked-kept, taint-off, blocked-off}
 
@@ -43,11 +43,10 @@ unmarked s = record { regs = s .regs; marks = replicate 16 false; flags = none; 
 -- ---- one step
 
 -- a step of the one machine and of the other, from state s, memory m and mark slice k: both stop alike, or come to the same state and memory
-data Agree (s : Core) (m k : List ℕ) : Stepped → Outcome → Type 0 where
-  stops : (r : Reply) → Agree s m k (stopStep r m k) (stopped r)
-  goes : (c : Control) (r v : ℕ) (l : List ℕ)
-      → Agree s m k
-      (record { out = Out.Go (record { control = c; flags = none; reg = r; value = v; mark = false }); mem = l; marks = k })
+data Agree (s : Core) (k : List ℕ) : Stepped → Outcome → Type 0 where
+  stops : (r : Reply) → Agree s k (halted r) (stopped r)
+  goes : (c : Control) (r v : ℕ) (l : List ℕ) (x : Line)
+      → Agree s k (made (record { control = c; flags = none; reg = r; value = v; mark = false }) l k x)
       (completed (record { regs = set (s .regs) r v; control = c }) l)
 
 and-true : (b : Bool) → (b && true) ≡ b
@@ -55,28 +54,28 @@ and-true true = refl
 and-true false = refl
 
 module _ (k : List ℕ) (z : (i : ℕ) → getD k i 0 ≡ 0) where
-  second-same : (c : Kind) (h a : ℕ) (m : List ℕ) → secondOf c h a m k ≡ second c h a m
-  unfolding secondOf second
-  second-same c h a m = rw (anyOf-off k z Width.Half a)
+  guarded-same : (a : ByteAddr) (m : List ℕ) (x : Fetched) → guarded a m k x ≡ reached a m x
+  guarded-same a m x = rw (anyOf-off k z Width.Half a)
 
-  rest-same : (c : Kind) (h a : ℕ) (m : List ℕ) → restOf c h a m k ≡ rest c h a m
-  unfolding restOf rest
-  rest-same c h a m = rw (second-same c h (wrap (a + 2)) m)
+  found-same : (d : Decoded) (b : ByteAddr) (m : List ℕ) → found d b m k ≡ decoded d b m
+  found-same (Decoded.Short i) b m = refl
+  found-same (Decoded.Long i) b m = guarded-same b m (Fetched.Run i)
+  found-same Decoded.Nothing b m = refl
 
-  fetch-same : (a : ℕ) (m : List ℕ) → fetchOf a m k ≡ fetch a m
+  fetch-same : (a : ByteAddr) (m : List ℕ) → fetchOf a m k ≡ fetch a m
   unfolding fetchOf fetch
-  fetch-same a m = rw (anyOf-off k z Width.Half a, rest-same (kindOf (halfAt m a / 256)) (halfAt m a) a m)
+  fetch-same a m = rw (anyOf-off k z Width.Half a, found-same (decodedAt m a) _ m)
 
   does-same : (s : Core) (m : List ℕ) (u : Bool) (v : ℕ) (e : Effect) (r : Reach)
-      → Agree s m k
-      (actStep (cond u (Act.Stop Reply.DataOutside) (Act.Does e (with false none) r)) (record { value = v; mark = false }) (unmarked s) m k)
+      → Agree s k
+      (actStep (cond u (Act.Stop Reply.DataOutside) (Act.Does e (with false none) r)) (record { value = v; mark = false }) (s .control) m k)
       (cond u (stopped Reply.DataOutside) (completed (changed s e r) (storedTo r v m)))
   unfolding doneOf changed
   does-same s m true v e r = stops Reply.DataOutside
-  does-same s m false v e r = rw (marked-kept k z r) (goes _ _ _ _)
+  does-same s m false v e r = rw (marked-kept k z r) (goes _ _ _ _ _)
 
   act-same : (i : Instr) (x y : Val) (s : Core) (m : List ℕ) → x .mark ≡ false → y .mark ≡ false
-      → Agree s m k (actStep (actOf i x y none (s .control) m k) x (unmarked s) m k)
+      → Agree s k (actStep (actOf i x y none (s .control) m k) x (s .control) m k)
       (act i (x .value) (y .value) (reachOf i (y .value) (s .control)) s m)
   unfolding actOf act
   act-same i x y s m p q =
@@ -84,36 +83,31 @@ module _ (k : List ℕ) (z : (i : ℕ) → getD k i 0 ≡ 0) where
       rw (p, q, blocked-off i, loaded-off k z r, taint-off i (tf (s .control)))
       (does-same s m (outside r m) (x .value) (exec i (x .value) (y .value) (loadedFrom r m) (s .control)) r)
 
-  fetched-same : (x : Fetched) (s : Core) (m : List ℕ) → Agree s m k (fetchStep x (unmarked s) m k) (onFetched x s m)
+  fetched-same : (x : Fetched) (s : Core) (m : List ℕ) → Agree s k (fetchStep x (unmarked s) m k) (onFetched x s m)
   unfolding instrStep perform
   fetched-same (Fetched.Stop r) s m = stops r
   fetched-same (Fetched.Run i) s m =
-      act-same i (valueAt (unmarked s) (operandsOf i .first)) (valueAt (unmarked s) (operandsOf i .second)) s m
-      (reg-off (operandsOf i .first))
-      (reg-off (operandsOf i .second))
+      act-same i (valueAt (unmarked s) (sourcesOf i .first)) (valueAt (unmarked s) (sourcesOf i .second)) s m
+      (reg-off (sourcesOf i .first))
+      (reg-off (sourcesOf i .second))
 
-  entry-same : (c : Control) (s : Core) (m : List ℕ) → Agree s m k (entryStep c (unmarked s) m k) (entered c s m)
-  unfolding changed
-  entry-same c s m = rw (and-true (on (s .control .psw) 4)) (goes _ _ _ _)
+  event-same : (v : Event) (s : Core) (m : List ℕ) → Agree s k (eventStep v (unmarked s) m k) (onEvent v s m)
+  unfolding changed entryDone entered
+  event-same (Event.Enter e) s m = rw (and-true (on (s .control .psw) 4)) (goes _ _ _ _ _)
+  event-same Event.Instruction s m = rw (fetch-same (pcOf (s .control)) m) (fetched-same (fetch (pcOf (s .control)) m) s m)
 
-  event-same : (v : Event) (s : Core) (m : List ℕ) → Agree s m k (eventStep v (unmarked s) m k) (onEvent v s m)
-  event-same Event.Timer s m = entry-same (timerEntry (s .control)) s m
-  event-same (Event.Line i) s m = entry-same (externalEntry i (s .control)) s m
-  event-same Event.Break s m = entry-same (debugEntry 1 (s .control)) s m
-  event-same Event.Instruction s m = rw (fetch-same (s .control .pc) m) (fetched-same (fetch (s .control .pc) m) s m)
-
-  step-same : (t : ℕ) (s : Core) (m : List ℕ) → Agree s m k (stepOf t (unmarked s) m k) (step t s m)
+  step-same : (t : ℕ) (s : Core) (m : List ℕ) → Agree s k (stepOf t (unmarked s) m k) (step t s m)
   unfolding stepOf step
   step-same t s m = event-same (chosen t (s .control)) s m
 
   -- ---- a run
 
   goes-on : (n : ℕ) (s : Core) (m : List ℕ) (further : State → List ℕ → List ℕ → Final) (plainly : Core → List ℕ → Result)
-      → ((u : Core) (l : List ℕ) → further (unmarked u) l k ≡ beside (plainly u l) (unmarked u) k) → (x : Stepped) (o : Outcome) → Agree s m k x o
-      → goOn further n (unmarked s) (x .out) (x .mem) (x .marks) ≡ beside (goOnPlain plainly n s m o) (unmarked s) k
+      → ((u : Core) (l : List ℕ) → further (unmarked u) l k ≡ beside (plainly u l) (unmarked u) k) → (x : Stepped) (o : Outcome) → Agree s k x o
+      → goOn further n (unmarked s) m k x ≡ beside (goOnPlain plainly n s m o) (unmarked s) k
   unfolding goOn goOnPlain after
   goes-on n s m further plainly h x o (stops r) = refl
-  goes-on n s m further plainly h x o (goes c r v l) = rw (reg-kept r) (h _ l)
+  goes-on n s m further plainly h x o (goes c r v l y) = rw (reg-kept r) (h _ l)
 
   steps-same : (b n : ℕ) (t : List ℕ) (s : Core) (m : List ℕ) → stepsOf b n t (unmarked s) m k ≡ beside (stepsFrom b n t s m) (unmarked s) k
   unfolding stepsOf stepsFrom

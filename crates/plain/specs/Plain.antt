@@ -1,33 +1,34 @@
 -- The machine without marks: "a second definition by the same rules, with no mark in its state or its steps" (document 01, "Holding the statements to the
--- machine"). The rules of values, entries and the choice of a step are those that the machine with marks uses too; none of them reads or makes a mark.
--- What marks add there is not here: no mark slice, no marks of registers and flags, and of the replies none of 2, 3, 12 and 14. (anyAbove stands in crate
--- marks, and speaks of any list of numbers.)
+-- machine"). It has a state, a fetch, a step, refusals and a run of its own. Shared with the machine with marks are rules that neither read nor make a mark: the decoder
+-- (decodeOf, halfAt), the choice of a step (chosen), entries and the timer's fall (entered, entryBy, fallen), what an instruction does to values (exec, sourcesOf), where it
+-- reaches (reachOf, outside, loadedFrom, storedTo), and the tests of refusals 1, 4 and 6 (badLength, outOfForm, anyAbove). What marks add is not here: no mark slice, no
+-- marks of registers and flags, and of the replies none of 2, 3, 12 and 14.
 -- Assumes nothing.
-use Prim.Native.Nat.{ℕ, zero, suc, _+_, _/_, _%_}
+use Prim.Native.Nat.{ℕ, zero, suc, _+_, _%_}
 use mathlib.Core.Bool.{cond, not, _&&_}
 use mathlib.Core.List.{List}
 use lib.Dec.{ltb, eqb}
 use lib.ListN.{length, getD, set, take}
 use Rattle.word.specs.Bits.{on}
-use Rattle.word.specs.Numbers.{wrap}
-use Rattle.word.specs.Bytes.{inside}
-use Rattle.isa.specs.Codes.{kindOf}
-use Rattle.isa.specs.Decode.{operandsOf as decoded}
-use Rattle.isa.specs.declared.Kind.{Kind}
+use Rattle.word.specs.Bytes.{inside, anyAbove}
+use Rattle.word.specs.declared.ByteAddr.{ByteAddr}
+use Rattle.isa.specs.Decode.{decodeOf}
+use Rattle.isa.specs.declared.Decoded.{Decoded}
 use Rattle.isa.specs.declared.Instr.{Instr}
-use Rattle.cpu.specs.Entries.{timerEntry, externalEntry, debugEntry, fallen}
-use Rattle.cpu.specs.Exec.{moves, exec, operandsOf, reachOf}
+use Rattle.cpu.specs.Control.{pcOf}
+use Rattle.cpu.specs.Entries.{entered, fallen}
+use Rattle.cpu.specs.Exec.{moves, exec, sourcesOf}
 use Rattle.cpu.specs.declared.Control.{Control}
 use Rattle.cpu.specs.declared.Effect.{Effect}
-use Rattle.cpu.specs.declared.Reach.{Reach}
-use Rattle.word.specs.Bytes.{anyAbove}
+use Rattle.instruction.specs.Fetch.{halfAt, afterHalf}
+use Rattle.instruction.specs.Act.{reachOf, outside, loadedFrom}
+use Rattle.instruction.specs.declared.Reply.{Reply}
+use Rattle.instruction.specs.declared.Fetched.{Fetched}
+use Rattle.instruction.specs.declared.Reach.{Reach}
 use Rattle.machine.specs.State.{outOfForm}
-use Rattle.machine.specs.Fetch.{found, halfAt, isLongKind}
-use Rattle.machine.specs.Step.{chosen, outside, loadedFrom, storedTo, watchedBy}
+use Rattle.machine.specs.Step.{chosen, storedTo, entryBy}
 use Rattle.machine.specs.Run.{badLength}
-use Rattle.machine.specs.declared.Reply.{Reply}
 use Rattle.machine.specs.declared.Event.{Event}
-use Rattle.machine.specs.declared.Fetched.{Fetched}
 use Rattle.machine.specs.declared.Judged.{Judged}
 
 -- The state: "sixteen registers of 32 bits", and the control part, which is the program counter, PSW, SFR 1 to 10 and "timer pending". Memory stands beside it.
@@ -41,20 +42,19 @@ valueOf s i = getD (s .regs) i 0
 
 -- ---- the fetch: "first half outside, .., not an instruction, second half outside, .."
 
--- the second half, at a, of a long jump
-unfoldable pub second : Kind → ℕ → ℕ → List ℕ → Fetched
-second k h a m = cond (not (inside m a 2)) (Fetched.Stop Reply.FetchOutside) (found (decoded k h (halfAt m a)))
+abbrev pub reached : ByteAddr → List ℕ → Fetched → Fetched
+reached a m x = cond (not (inside m a 2)) (Fetched.Stop Reply.FetchOutside) x
 
--- the first half is h, at a; what is no instruction answers 13 before a second half is looked at
-unfoldable pub rest : Kind → ℕ → ℕ → List ℕ → Fetched
-rest k h a m = cond (isLongKind k) (second k h (wrap (a + 2)) m) (found (decoded k h 0))
+abbrev pub decoded : Decoded → ByteAddr → List ℕ → Fetched
+decoded (Decoded.Short i) b m = Fetched.Run i
+decoded (Decoded.Long i) b m = reached b m (Fetched.Run i)
+decoded Decoded.Nothing b m = Fetched.Stop Reply.NoInstruction
 
 -- "A program counter found odd inside a run answers 13, before all these"
-unfoldable pub fetch : ℕ → List ℕ → Fetched
+unfoldable pub fetch : ByteAddr → List ℕ → Fetched
 fetch a m =
-    cond (eqb (a % 2) 1) (Fetched.Stop Reply.NoInstruction)
-    (cond (not (inside m a 2)) (Fetched.Stop Reply.FetchOutside)
-    (rest (kindOf (halfAt m a / 256)) (halfAt m a) a m))
+    cond (eqb (a .0 % 2) 1) (Fetched.Stop Reply.NoInstruction)
+    (reached a m (decoded (decodeOf (halfAt m a) (halfAt m (afterHalf a))) (afterHalf a) m))
 
 -- ---- one step
 
@@ -63,13 +63,13 @@ pub data Outcome : Type 0 where
   stopped : Reply → Outcome
   completed : Core → List ℕ → Outcome
 
--- the state after an effect e that reaches memory at r: the register that it writes (16: none), its watchpoint, and the timer's fall, "if TE was 1 at its
+-- the state after an effect e that reaches r: the register that it writes (noReg: none), the entry that it makes, and the timer's fall, "if TE was 1 at its
 -- start" and TIMER was not written
 unfoldable pub changed : Core → Effect → Reach → Core
 changed s e r =
     record {
       regs = set (s .regs) (e .reg) (e .value);
-      control = fallen (on (s .control .psw) 4 && not (e .wrote)) (watchedBy r (e .control));
+      control = fallen (on (s .control .psw) 4 && not (e .wrote)) (entered (entryBy r (e .control)) (e .control));
     }
 
 -- an instruction whose operands have the values x and y, and which reaches memory at r: stop 15, "load or store outside memory", or all that it does
@@ -82,9 +82,9 @@ act i x y r s m =
 unfoldable pub perform : Instr → Core → List ℕ → Outcome
 perform i s m =
     act i
-    (valueOf s (operandsOf i .first))
-    (valueOf s (operandsOf i .second))
-    (reachOf i (valueOf s (operandsOf i .second)) (s .control))
+    (valueOf s (sourcesOf i .first))
+    (valueOf s (sourcesOf i .second))
+    (reachOf i (valueOf s (sourcesOf i .second)) (s .control))
     s
     m
 
@@ -92,16 +92,10 @@ abbrev pub onFetched : Fetched → Core → List ℕ → Outcome
 onFetched (Fetched.Stop r) s m = stopped r
 onFetched (Fetched.Run i) s m = perform i s m
 
--- an entry makes the control part c and reaches no register and no memory; the timer falls in this step too
-abbrev pub entered : Control → Core → List ℕ → Outcome
-entered c s m = completed (changed s (moves c) Reach.Nowhere) m
-
--- what is chosen: timer, line, breakpoint or instruction (document 01, "One step", 1 to 3)
+-- what is chosen: an entry, which reaches no register and no memory, with the timer's fall, or an instruction (document 01, "One step", 1 to 3)
 abbrev pub onEvent : Event → Core → List ℕ → Outcome
-onEvent Event.Timer s m = entered (timerEntry (s .control)) s m
-onEvent (Event.Line i) s m = entered (externalEntry i (s .control)) s m
-onEvent Event.Break s m = entered (debugEntry 1 (s .control)) s m
-onEvent Event.Instruction s m = onFetched (fetch (s .control .pc) m) s m
+onEvent (Event.Enter e) s m = completed (changed s (moves (entered e (s .control))) Reach.Nowhere) m
+onEvent Event.Instruction s m = onFetched (fetch (pcOf (s .control)) m) s m
 
 -- t is the tape's byte of this step
 unfoldable pub step : ℕ → Core → List ℕ → Outcome

@@ -9,9 +9,9 @@ use lib.Dec.{ltb, eqb}
 use lib.ListN.{length, getD, length-append}
 use Rattle.text.specs.Digits.{hexText, decimalText}
 use Rattle.text.proofs.Theorems.{digits-length, decimal-length, decimal-most}
-use Rattle.machine.specs.State.{numberOf}
+use Rattle.instruction.specs.Reply.{numberOf}
 use Rattle.machine.specs.declared.Ended.{Ended}
-use Rattle.machine.specs.declared.Reply.{Reply}
+use Rattle.instruction.specs.declared.Reply.{Reply}
 use Rattle.machine.specs.declared.State.{State}
 use Rattle.script.specs.Answer.{badText, endText, pcText, stars, registerLine, registerText, registersText, stateText, endedText, answered, ranOf}
 use Rattle.script.specs.declared.Phase.{Phase}

@@ -11,21 +11,21 @@ use lib.Dec.{ltb}
 use lib.Seq.{sets, drop-cons, take-all, take-length, drop-length}
 use borrow.Author.Tests.{ltb-false, lt-ltb, le-ltb}
 use Rattle.script.specs.Answer.{Page, oneOn, writeOn, badText, pcText, endText, registerLine, registerText, registersText, stateText, endedText}
-use Rattle.machine.specs.State.{numberOf}
+use Rattle.instruction.specs.Reply.{numberOf}
 use Rattle.machine.specs.declared.State.{State}
 use Rattle.machine.specs.declared.Ended.{Ended}
 use Rattle.text.specs.Digits.{pairOf, hexText, decimalText}
 use Rattle.word.specs.declared.Width.{Width}
 use Rattle.marks.specs.Memory.{markAll}
-use Rattle.script.specs.Line.{bytesOf, markFrom}
+use Rattle.script.specs.Line.{pairsOf, markFrom}
 use Rattle.script.specs.Reader.{Fed, byteOf, feedOf}
 
 -- ---- bytes in hex
 
 pub bytes-more : (h : List ℕ) (i : ℕ) → i < length h / 2
-    → bytesOf (drop (2 * i) h) ≡ pairOf (getD h (2 * i) 0) (getD h (2 * i + 1) 0) ∷ bytesOf (drop (2 * (i + 1)) h)
-unfolding bytesOf
-bytes-more h i l = ap bytesOf two
+    → pairsOf (drop (2 * i) h) ≡ pairOf (getD h (2 * i) 0) (getD h (2 * i + 1) 0) ∷ pairsOf (drop (2 * (i + 1)) h)
+unfolding pairsOf
+bytes-more h i l = ap pairsOf two
   where
     next : (j : ℕ) → j < length h → drop j h ≡ getD h j 0 ∷ drop (j + 1) h
     next j q = rw (add-one, drop-cons h j 0)
@@ -36,28 +36,28 @@ bytes-more h i l = ap bytesOf two
         next (2 * i) (omega arith) ∙ ap (λ (r : List ℕ). getD h (2 * i) 0 ∷ r) (next (2 * i + 1) (omega arith))
         ∙ ap (λ (n : ℕ). getD h (2 * i) 0 ∷ getD h (2 * i + 1) 0 ∷ drop n h) (sym e)
 
-pub bytes-none : (h : List ℕ) (i : ℕ) → length h / 2 ≤ i → bytesOf (drop (2 * i) h) ≡ []
-unfolding bytesOf
+pub bytes-none : (h : List ℕ) (i : ℕ) → length h / 2 ≤ i → pairsOf (drop (2 * i) h) ≡ []
+unfolding pairsOf
 bytes-none h i l = short (drop (2 * i) h) (rw lib.ListN.length-drop (omega arith))
   where
-    short : (r : List ℕ) → length r ≤ 1 → bytesOf r ≡ []
+    short : (r : List ℕ) → length r ≤ 1 → pairsOf r ≡ []
     short [] q = refl
     short (c ∷ []) q = refl
     short (c ∷ d ∷ r) q = absurd (omega arith)
 
 -- no byte stored yet, one more, and none left
-pub put-start : (m h : List ℕ) (a : ℕ) → sets m (a + 0) (bytesOf (drop (2 * 0) h)) ≡ sets m a (bytesOf h)
+pub put-start : (m h : List ℕ) (a : ℕ) → sets m (a + 0) (pairsOf (drop (2 * 0) h)) ≡ sets m a (pairsOf h)
 put-start m h a =
     let e : a + 0 ≡ a = omega arith in
     rw e
 
 pub put-more : (m h : List ℕ) (a i : ℕ) → i < length h / 2
-    → sets m (a + i) (bytesOf (drop (2 * i) h)) ≡ sets (set m (a + i) (pairOf (getD h (2 * i) 0) (getD h (2 * i + 1) 0))) (a + (i + 1)) (bytesOf (drop (2 * (i + 1)) h))
+    → sets m (a + i) (pairsOf (drop (2 * i) h)) ≡ sets (set m (a + i) (pairOf (getD h (2 * i) 0) (getD h (2 * i + 1) 0))) (a + (i + 1)) (pairsOf (drop (2 * (i + 1)) h))
 put-more m h a i l =
     let e : a + (i + 1) ≡ suc (a + i) = omega arith in
     rw (bytes-more h i l, e)
 
-pub put-none : (m h : List ℕ) (a i : ℕ) → length h / 2 ≤ i → sets m a (bytesOf (drop (2 * i) h)) ≡ m
+pub put-none : (m h : List ℕ) (a i : ℕ) → length h / 2 ≤ i → sets m a (pairsOf (drop (2 * i) h)) ≡ m
 put-none m h a i l = rw (bytes-none h i l)
 
 -- ---- marks

@@ -11,13 +11,13 @@ use lib.Dec.{ltb, eqb, eqb·suc-zero}
 use lib.ListN.{length, take, set, length-append, length-take, length-drop, length-set}
 use lib.Seq.{take-all, take-suc-set, take-append-le, length-take-le}
 use borrow.Author.Tests.{ltb-true, ltb-false, le-leb, lt-leb, eqb-true, ne-eqb}
-use Rattle.text.specs.Digits.{numberOf, decimalOf, addressOf, areHex}
+use Rattle.text.specs.Digits.{digitsRead, decimalOf, addressOf, areHex}
 use Rattle.text.specs.Fields.{beforeOf, beyondOf, sameOf}
 use Rattle.text.specs.declared.Read.{Read}
 use Rattle.script.specs.Line.{Told, told, blank, sizeOf, budgetOf, putOf, countOf, markOf, firstOf, bodyOf, lineOf, numberAfter, wordMem, wordAt, wordMark, wordRun, areBytes}
 use Rattle.script.specs.Reader.{Fed, fed, startOf, readerAfter, byteOf, feedOf}
 use Rattle.script.specs.Answer.{answered, answerBy}
-use Rattle.script.specs.Whole.{Script, script, linesOf, leftOf, afterLine, afterLines, answerOf, isEnded}
+use Rattle.script.specs.Whole.{Script, script, linesOf, leftOf, afterLine, afterLines, textOf, isEnded}
 use Rattle.script.specs.declared.Phase.{Phase}
 use Rattle.script.specs.declared.Reader.{Reader}
 
@@ -68,11 +68,11 @@ module _ (n : ℕ) (m k : List ℕ) where
       bad Read.Nothing e = refl
       bad (Read.Number a) e = rw e
 
-      go : (t : Bool) → eqb (length (beforeOf r)) 8 ≡ t → putOf (cond t (numberOf 16 0 (beforeOf r)) Read.Nothing) (beyondOf r) n m k ≡ told Phase.Bad m k
+      go : (t : Bool) → eqb (length (beforeOf r)) 8 ≡ t → putOf (cond t (digitsRead 16 0 (beforeOf r)) Read.Nothing) (beyondOf r) n m k ≡ told Phase.Bad m k
       go true e =
           let w : length (beforeOf r) ≡ 8 = eqb-true _ _ e in
           let f = fields-long r in
-          bad (numberOf 16 0 (beforeOf r)) (bytes-long (beyondOf r) (omega arith))
+          bad (digitsRead 16 0 (beforeOf r)) (bytes-long (beyondOf r) (omega arith))
       go false e = refl
 
   mark-long : (r : List ℕ) → 40 ≤ length r → markOf (addressOf (beforeOf r)) (decimalOf (beyondOf r)) n m k ≡ told Phase.Bad m k
@@ -84,11 +84,11 @@ module _ (n : ℕ) (m k : List ℕ) where
       bad (Read.Number a) = refl
 
       go : (t : Bool) → eqb (length (beforeOf r)) 8 ≡ t
-          → markOf (cond t (numberOf 16 0 (beforeOf r)) Read.Nothing) (decimalOf (beyondOf r)) n m k ≡ told Phase.Bad m k
+          → markOf (cond t (digitsRead 16 0 (beforeOf r)) Read.Nothing) (decimalOf (beyondOf r)) n m k ≡ told Phase.Bad m k
       go true e =
           let w : length (beforeOf r) ≡ 8 = eqb-true _ _ e in
           let f = fields-long r in
-          rw (decimal-long (beyondOf r) (omega arith)) (bad (numberOf 16 0 (beforeOf r)))
+          rw (decimal-long (beyondOf r) (omega arith)) (bad (digitsRead 16 0 (beforeOf r)))
       go false e = refl
 
   body-long : (w r : List ℕ) → 45 ≤ length w + 1 + length r → bodyOf w r n m k ≡ told Phase.Bad m k
@@ -215,6 +215,6 @@ alike (b ∷ t) = alike-more b t (alike t)
 
 pub fed-whole : (t l : List ℕ) → length l ≡ 45
     → answerBy (feedOf t (fed startOf l blank blank) .reader) (feedOf t (fed startOf l blank blank) .mem) (feedOf t (fed startOf l blank blank) .marks) .text
-    ≡ answerOf t
-unfolding answerOf
+    ≡ textOf t
+unfolding textOf
 fed-whole t l h = alike t Phase.First 1 0 l [] blank blank (record { room = h; few = omega arith; first = refl })

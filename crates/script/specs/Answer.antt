@@ -6,7 +6,8 @@ use mathlib.Core.List.{List, [], _∷_, _++_}
 use lib.Dec.{ltb, eqb}
 use lib.ListN.{getD, take, drop, set}
 use Rattle.text.specs.Digits.{hexText, decimalText}
-use Rattle.machine.specs.State.{numberOf, freshState}
+use Rattle.instruction.specs.Reply.{numberOf}
+use Rattle.machine.specs.State.{freshState}
 use Rattle.machine.specs.Run.{Final, runOf}
 use Rattle.machine.specs.declared.Ended.{Ended}
 use Rattle.machine.specs.declared.State.{State}

@@ -43,16 +43,16 @@ isEven n = eqb (n % 2) 0
 abbrev pub areBytes : List ℕ → Bool
 areBytes h = areHex h && (isEven (length h) && (leb 2 (length h) && leb (length h) 32))
 
-unfoldable pub bytesOf : List ℕ → List ℕ
-bytesOf [] = []
-bytesOf (c ∷ []) = []
-bytesOf (c ∷ d ∷ h) = pairOf c d ∷ bytesOf h
+unfoldable pub pairsOf : List ℕ → List ℕ
+pairsOf [] = []
+pairsOf (c ∷ []) = []
+pairsOf (c ∷ d ∷ h) = pairOf c d ∷ pairsOf h
 
 -- "`at` address (8 hex digits) and hex bytes"; n is memory's size. "A later `at` overwrites bytes and leaves marks"
 unfoldable pub putOf : Read → List ℕ → ℕ → List ℕ → List ℕ → Told
 putOf Read.Nothing h n m k = told Phase.Bad m k
 putOf (Read.Number a) h n m k =
-    cond (areBytes h && leb (a + length h / 2) n) (told (Phase.Body n) (sets m a (bytesOf h)) k) (told Phase.Bad m k)
+    cond (areBytes h && leb (a + length h / 2) n) (told (Phase.Body n) (sets m a (pairsOf h)) k) (told Phase.Bad m k)
 
 -- c bytes from a on become marked
 unfoldable pub markFrom : ℕ → List ℕ → ℕ → List ℕ

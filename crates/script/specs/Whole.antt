@@ -44,8 +44,8 @@ abbrev pub isEnded : List ℕ → Bool
 isEnded l = eqb (length l) 0
 
 -- what the program writes for an input
-unfoldable pub answerOf : List ℕ → List ℕ
-answerOf input =
+unfoldable pub textOf : List ℕ → List ℕ
+textOf input =
     answered (afterLines (linesOf [] input) begin .told .phase) (isEnded (leftOf [] input)) (afterLines (linesOf [] input) begin .number)
     (afterLines (linesOf [] input) begin .told .mem)
     (afterLines (linesOf [] input) begin .told .marks) .text

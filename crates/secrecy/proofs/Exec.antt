@@ -15,17 +15,18 @@ use Rattle.isa.specs.declared.ImmOp.{ImmOp}
 use Rattle.isa.specs.declared.ShortOp.{ShortOp}
 use Rattle.isa.specs.declared.LongOp.{LongOp}
 use Rattle.isa.specs.declared.Instr.{Instr}
-use Rattle.cpu.specs.Control.{withPsw, tf, cy, sfrOf}
-use Rattle.cpu.specs.Exec.{aluOf, carried, shiftOf, cmpOf, cmpImmOf, condOf, immValue, wants, shortJump, longJump, written, sets, moves, exec, dataAddress, reachOf}
+use Rattle.cpu.specs.Control.{withSfr, tf, cy, sfrOf}
+use Rattle.cpu.specs.Exec.{aluOf, carried, shiftOf, cmpOf, cmpImmOf, condOf, immValue, wants, shortJump, longJump, written, putsReg, moves, exec, dataAddress}
 use Rattle.cpu.specs.declared.Control.{Control}
 use Rattle.cpu.specs.declared.Effect.{Effect}
-use Rattle.cpu.specs.declared.Reach.{Reach}
+use Rattle.instruction.specs.Act.{reachOf}
+use Rattle.instruction.specs.declared.Reach.{Reach}
 use Rattle.marks.specs.Marks.{aluMark, aluFlags, condMark, immMark, sfrMark, with, taint, shortBlocked, longBlocked, blocked}
 use Rattle.marks.specs.declared.Flags.{Flags}
 use Rattle.marks.specs.declared.Taint.{Taint}
 use Rattle.secrecy.specs.Same.{SameControl}
 use Rattle.secrecy.proofs.Psw.{psw-equal}
-use Rattle.secrecy.proofs.Control.{pc-same, sets-tf, sets-cy, onwards, goes, links, jumps, swints, branches, leaves, accepts, writes-psw, writes-other}
+use Rattle.secrecy.proofs.Control.{pc-same, sets-tf, sets-cy, onwards, goes, links, jumps, branches, leaves, accepts, writes-psw, writes-other}
 
 -- what an instruction makes, t its marks
 pub record SameEffect (t : Taint) (e g : Effect) : Type 0 where
@@ -45,12 +46,12 @@ right-off false b e = e
 
 -- an SFR that is read
 pub sfr-same : {f : Flags} {a b : Control} → SameControl f a b → (n : ℕ) → sfrMark n f ≡ false → sfrOf n a ≡ sfrOf n b
-unfolding sfrMark withPsw
+unfolding sfrMark withSfr
 sfr-same {f} s zero h = psw-equal (s .psw) (left-off (f .tf) (f .cy) h) (right-off (f .tf) (f .cy) h)
 sfr-same s (suc n) h = ap (λ (c : Control). sfrOf (suc n) c) (s .rest)
 
 -- a register and the next instruction, or none
-sets-same : {m : Bool} {f : Flags} {a b : Control} (d v x : ℕ) → SameControl f a b → (m ≡ false → v ≡ x) → SameEffect (with m f) (sets d v a) (sets d x b)
+sets-same : {m : Bool} {f : Flags} {a b : Control} (d v x : ℕ) → SameControl f a b → (m ≡ false → v ≡ x) → SameEffect (with m f) (putsReg d v a) (putsReg d x b)
 sets-same d v x s e = record { control = onwards s 2; reg = refl; value = e; wrote = refl }
 
 moves-same : {f : Flags} {a b : Control} → SameControl f a b → SameEffect (with false f) (moves a) (moves b)
@@ -146,7 +147,7 @@ writes-same : {f : Flags} {a b : Control} (n v x : ℕ) → SameControl f a b �
     → SameControl (cond (eqb n 0) (record { tf = false; cy = false }) f) (written n v a) (written n x b)
 writes-same {f} {a} {b} zero v x s e = subst (λ (k : ℕ). SameControl (record { tf = false; cy = false }) (written 0 v a) (written 0 k b)) e (writes-psw s v)
 writes-same {f} {a} {b} (suc n) v x s e =
-    rw (eqb·suc-zero n) (subst (λ (k : ℕ). SameControl f (written (suc n) v a) (written (suc n) k b)) e (writes-other s n v))
+    rw (eqb·suc-zero n) (subst (λ (k : ℕ). SameControl f (written (suc n) v a) (written (suc n) k b)) e (writes-other s (suc n) v (eqb·suc-zero n)))
 
 -- TF says what the instruction wants, if it is unmarked
 wants-same : {f : Flags} {a b : Control} → SameControl f a b → (t : Bool) → f .tf ≡ false → wants t a ≡ wants t b
@@ -183,7 +184,7 @@ exec-same (Instr.Mtsfr n r) mx my l x y v u w z p q o s h =
 exec-same (Instr.Jr r) mx my l x y v u w z p q o s h = moves-same (goes s y w (q h))
 exec-same (Instr.Jrl r) mx my l x y v u w z p q o s h = moves-same (goes (links s) y w (q h))
 exec-same (Instr.Jsfr n) mx my l x y v u w z p q o s h = moves-same (goes (leaves s n) _ _ (sfr-same s n h))
-exec-same (Instr.Swint n) mx my l x y v u w z p q o s h = moves-same (swints (onwards s 2) n)
+exec-same (Instr.Swint n) mx my l x y v u w z p q o s h = moves-same (onwards s 2)
 exec-same (Instr.ShortJump op d) mx my l x y v u w z p q o s h = moves-same (short-jumps op d s h)
 exec-same (Instr.LongJump op d) mx my l x y v u w z p q o s h = moves-same (long-jumps op d s h)
 

@@ -13,6 +13,7 @@ use lib.Seq.{getD-set-same, getD-set-other, set-out, set-comm}
 use borrow.Author.Tests.{ltb-false}
 use Rattle.word.specs.Bits.{num}
 use Rattle.word.specs.Bytes.{bytesOf, inside, load, store, fill, any, loadOf, storeOf, fillOf, anyOf}
+use Rattle.word.specs.declared.ByteAddr.{ByteAddr}
 use Rattle.word.specs.declared.Width.{Width}
 use Rattle.word.proofs.Memory.{load-same, store-length, fill-length}
 use Rattle.secrecy.specs.Same.{SameList, SameMem}
@@ -60,18 +61,19 @@ any-off (suc n) k a i h l = go (ℕ-discrete i n) (λ q. any-off n k a i (left-o
 
 module _ {k m n : List ℕ} (s : SameMem k m n) (each : length m ≡ length k) where
   -- reading
-  loads : (w a : ℕ) → cond (inside k a w) (any w k a) false ≡ false → cond (inside m a w) (load w m a) 0 ≡ cond (inside n a w) (load w n a) 0
+  loads : (w a : ℕ) → cond (leb (a + w) (length k)) (any w k a) false ≡ false
+      → cond (leb (a + w) (length m)) (load w m a) 0 ≡ cond (leb (a + w) (length n)) (load w n a) 0
   loads w a h =
       ap (λ (l : ℕ). cond (leb (a + w) l) (load w m a) 0) each
-      ∙ go (inside k a w) h
+      ∙ go (leb (a + w) (length k)) h
       ∙ sym (ap (λ (l : ℕ). cond (leb (a + w) l) (load w n a) 0) (sym (s .long) ∙ each))
     where
       go : (t : Bool) → cond t (any w k a) false ≡ false → cond t (load w m a) 0 ≡ cond t (load w n a) 0
       go true e = load-same w m n a (λ i l. s .equal (a + i) (any-off w k a i e l))
       go false e = refl
 
-  pub loaded : (w : Width) (a : ℕ) → anyOf w k a ≡ false → loadOf w m a ≡ loadOf w n a
-  loaded w a h = loads (bytesOf w) a h
+  pub loaded : (w : Width) (a : ByteAddr) → anyOf w k a ≡ false → loadOf w m a ≡ loadOf w n a
+  loaded w a h = loads (bytesOf w) (a .0) h
 
 -- writing
 fill-set : (n : ℕ) (k : List ℕ) (a b j : ℕ) → ((i : ℕ) → i < n → j ≡ a + i → ⊥) → fill n (set k j b) a b ≡ set (fill n k a b) j b
@@ -99,13 +101,16 @@ stores (suc w) {k} {m} {n} s each a c v x f =
 
 module _ {k m n : List ℕ} (s : SameMem k m n) (each : length m ≡ length k) where
   stores-in : (w a : ℕ) (b : Bool) (v x : ℕ) → (b ≡ false → v ≡ x)
-      → SameMem (cond (inside k a w) (fill w k a (num b)) k) (cond (inside m a w) (store w m a v) m) (cond (inside n a w) (store w n a x) n)
+      → SameMem (cond (leb (a + w) (length k)) (fill w k a (num b)) k)
+      (cond (leb (a + w) (length m)) (store w m a v) m)
+      (cond (leb (a + w) (length n)) (store w n a x) n)
   stores-in w a b v x f =
-      subst (λ (l : ℕ). SameMem (cond (inside k a w) (fill w k a (num b)) k) (cond (inside m a w) (store w m a v) m) (cond (leb (a + w) l) (store w n a x) n))
+      let t : Bool = leb (a + w) (length k) in
+      subst (λ (l : ℕ). SameMem (cond t (fill w k a (num b)) k) (cond (leb (a + w) (length m)) (store w m a v) m) (cond (leb (a + w) l) (store w n a x) n))
       (sym each ∙ s .long)
-      (subst (λ (l : ℕ). SameMem (cond (inside k a w) (fill w k a (num b)) k) (cond (leb (a + w) l) (store w m a v) m) (cond (inside k a w) (store w n a x) n))
+      (subst (λ (l : ℕ). SameMem (cond t (fill w k a (num b)) k) (cond (leb (a + w) l) (store w m a v) m) (cond t (store w n a x) n))
       (sym each)
-      (go (inside k a w)))
+      (go t))
     where
       off : (b : Bool) → num b ≡ 0 → b ≡ false
       off true e = absurd (omega arith)
@@ -115,17 +120,17 @@ module _ {k m n : List ℕ} (s : SameMem k m n) (each : length m ≡ length k) w
       go true = stores w s each a (num b) v x (λ e. f (off b e))
       go false = s
 
-  pub stored : (w : Width) (a : ℕ) (b : Bool) (v x : ℕ) → (b ≡ false → v ≡ x) → SameMem (fillOf w k a (num b)) (storeOf w m a v) (storeOf w n a x)
-  stored w a b v x f = stores-in (bytesOf w) a b v x f
+  pub stored : (w : Width) (a : ByteAddr) (b : Bool) (v x : ℕ) → (b ≡ false → v ≡ x) → SameMem (fillOf w k a (num b)) (storeOf w m a v) (storeOf w n a x)
+  stored w a b v x f = stores-in (bytesOf w) (a .0) b v x f
 
 -- a store changes neither length
-pub stored-each : (w : Width) (k m : List ℕ) (a : ℕ) (b : Bool) (v : ℕ) → length m ≡ length k → length (storeOf w m a v) ≡ length (fillOf w k a (num b))
+pub stored-each : (w : Width) (k m : List ℕ) (a : ByteAddr) (b : Bool) (v : ℕ) → length m ≡ length k → length (storeOf w m a v) ≡ length (fillOf w k a (num b))
 stored-each w k m a b v e = mem (inside m a (bytesOf w)) ∙ e ∙ sym (marks (inside k a (bytesOf w)))
   where
-    mem : (t : Bool) → length (cond t (store (bytesOf w) m a v) m) ≡ length m
-    mem true = store-length (bytesOf w) m a v
+    mem : (t : Bool) → length (cond t (store (bytesOf w) m (a .0) v) m) ≡ length m
+    mem true = store-length (bytesOf w) m (a .0) v
     mem false = refl
 
-    marks : (t : Bool) → length (cond t (fill (bytesOf w) k a (num b)) k) ≡ length k
-    marks true = fill-length (bytesOf w) k a (num b)
+    marks : (t : Bool) → length (cond t (fill (bytesOf w) k (a .0) (num b)) k) ≡ length k
+    marks true = fill-length (bytesOf w) k (a .0) (num b)
     marks false = refl

@@ -105,7 +105,7 @@ pub psw-like : {f : Flags} {p q : ℕ} → p ≡ q → SamePsw f p q
 psw-like e = record { rest = ap hide e; tf = λ h. ap (λ (n : ℕ). on n 8) e; cy = λ h. ap (λ (n : ℕ). on n 9) e }
 
 -- equal words, if neither TF nor CY is marked
-one-bit : (x y : ℕ) → x < 2 → y < 2 → eqb x 1 ≡ eqb y 1 → x ≡ y
+pub one-bit : (x y : ℕ) → x < 2 → y < 2 → eqb x 1 ≡ eqb y 1 → x ≡ y
 one-bit x y h l e = go (eqb x 1) refl
   where
     go : (t : Bool) → eqb x 1 ≡ t → x ≡ y

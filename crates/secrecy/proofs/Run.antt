@@ -3,30 +3,30 @@
 use Prim.Native.Nat.{ℕ, zero, suc, _+_, _%_}
 use mathlib.Core.Path.{_≡_, refl, sym, ap, ap₂, subst, _∙_}
 use mathlib.Core.Bool.{Bool, true, false, cond, not, _&&_, _||_}
-use mathlib.Core.List.{List, _++_}
+use mathlib.Core.List.{List, _∷_}
 use native.Mathlib.Omega.{arith}
 use lib.Dec.{ltb, eqb, lit≤}
 use lib.ListN.{length, getD, set, take, length-set}
 use borrow.Author.Tests.{eqb-true, not-false}
 use Rattle.word.specs.Bits.{fieldOf}
-use Rattle.cpu.specs.Control.{withPsw}
+use Rattle.word.specs.Bytes.{anyAbove}
+use Rattle.cpu.specs.Control.{withSfr}
 use Rattle.cpu.specs.declared.Control.{Control}
 use Rattle.marks.specs.Memory.{badMark}
-use Rattle.word.specs.Bytes.{anyAbove}
 use Rattle.marks.specs.declared.Flags.{Flags}
+use Rattle.instruction.specs.declared.Reply.{Reply}
 use Rattle.machine.specs.State.{outOfForm}
 use Rattle.machine.specs.Step.{Stepped, stepOf, after}
 use Rattle.machine.specs.Run.{Final, badLength, judge, goOn, stepsOf, judged, runOf}
-use Rattle.machine.specs.Trace.{Seen, seenOf, traceOn, traceOf}
+use Rattle.machine.specs.Trace.{traceOn, traceOf, shown, shownOf}
 use Rattle.machine.specs.declared.State.{State}
-use Rattle.machine.specs.declared.Reply.{Reply}
 use Rattle.machine.specs.declared.Judged.{Judged}
 use Rattle.machine.specs.declared.Done.{Done}
-use Rattle.machine.specs.declared.Out.{Out}
-use Rattle.secrecy.specs.Same.{SameControl, SameList, SameMem, Same, SameFinal, shown, shownOf}
+use Rattle.machine.specs.declared.Line.{Line}
+use Rattle.secrecy.specs.Same.{SameControl, SameList, SameMem, Same, SameFinal}
 use Rattle.secrecy.proofs.Psw.{bit-over}
 use Rattle.secrecy.proofs.Memory.{set-same}
-use Rattle.secrecy.proofs.Step.{SameDone, SameOut, stops, goes, SameStep, step-same}
+use Rattle.secrecy.proofs.Step.{SameDone, SameStep, stops, goes, step-same}
 
 -- ---- one step, of states with equal marks
 
@@ -37,11 +37,9 @@ like a c = record { regs = c .regs; marks = a .marks; flags = a .flags; control 
 is-like : (a c : State) → Same a c → like a c ≡ c
 is-like a c s = ap₂ (λ (k : List Bool) (f : Flags). record { regs = c .regs; marks = k; flags = f; control = c .control }) (s .marks) (s .flags)
 
-stepped : {a c : State} → Same a c → {k m n : List ℕ} → SameMem k m n → length m ≡ length k → (t : ℕ)
-    → SameStep (stepOf t a m k) (stepOf t c n k) (seenOf t a m k) (seenOf t c n k)
+stepped : {a c : State} → Same a c → {k m n : List ℕ} → SameMem k m n → length m ≡ length k → (t : ℕ) → SameStep (stepOf t a m k) (stepOf t c n k)
 stepped {a} {c} s {k} {m} {n} mem each t =
-    subst (λ (x : State). SameStep (stepOf t a m k) (stepOf t x n k) (seenOf t a m k) (seenOf t x n k)) (is-like a c s)
-    (step-same (s .regs) (s .control) mem each t)
+    subst (λ (x : State). SameStep (stepOf t a m k) (stepOf t x n k)) (is-like a c s) (step-same (s .regs) (s .control) mem each t)
 
 after-regs : {k : List Bool} {a b : List ℕ} → SameList false k a b → length a ≡ length k → {d e : Done} → SameDone d e
     → SameList false (set k (d .reg) (d .mark)) (set a (d .reg) (d .value)) (set b (e .reg) (e .value))
@@ -68,46 +66,37 @@ after-same {a} {c} s {d} {e} w =
 
 go-on : (rest : State → List ℕ → List ℕ → Final)
     → ((x y : State) (p q l : List ℕ) → Same x y → SameMem l p q → length p ≡ length l → SameFinal (rest x p l) (rest y q l))
-    → (i : ℕ) {a c : State} → Same a c → {u v : Out} → SameOut u v → {m n k : List ℕ} → SameMem k m n → length m ≡ length k
-    → SameFinal (goOn rest i a u m k) (goOn rest i c v n k)
+    → (i : ℕ) {a c : State} → Same a c → {m n k : List ℕ} → SameMem k m n → {u v : Stepped} → SameStep u v
+    → SameFinal (goOn rest i a m k u) (goOn rest i c n k v)
 unfolding goOn
-go-on rest ih i s (stops r) mem each = record { reply = refl; steps = refl; state = s; marks = refl; mem = mem }
-go-on rest ih i s (goes w) mem each = ih _ _ _ _ _ (after-same s w) mem each
+go-on rest ih i s mem (stops r) = record { reply = refl; steps = refl; state = s; marks = refl; mem = mem }
+go-on rest ih i s mem (goes x w h each) = ih _ _ _ _ _ (after-same s w) h each
 
 pub steps-same : (b i : ℕ) (t : List ℕ) (a c : State) (m n k : List ℕ) → Same a c → SameMem k m n → length m ≡ length k
     → SameFinal (stepsOf b i t a m k) (stepsOf b i t c n k)
 unfolding stepsOf
 steps-same zero i t a c m n k s mem each = record { reply = refl; steps = refl; state = s; marks = refl; mem = mem }
 steps-same (suc b) i t a c m n k s mem each =
-    let x : Stepped = stepOf (getD t i 0) a m k in
-    let y : Stepped = stepOf (getD t i 0) c n k in
-    let w = stepped s mem each (getD t i 0) in
-    subst (λ (l : List ℕ). SameFinal (goOn (stepsOf b (i + 1) t) i a (x .out) (x .mem) (x .marks)) (goOn (stepsOf b (i + 1) t) i c (y .out) (y .mem) l))
-    (w .marks)
-    (go-on (stepsOf b (i + 1) t) (steps-same b (i + 1) t) i s (w .out) (w .mem) (w .each))
+    go-on (stepsOf b (i + 1) t) (steps-same b (i + 1) t) i s mem (stepped s mem each (getD t i 0))
 
-trace-on : (rest : State → List ℕ → List ℕ → List Seen)
+trace-on : (rest : State → List ℕ → List ℕ → List Line)
     → ((x y : State) (p q l : List ℕ) → Same x y → SameMem l p q → length p ≡ length l → rest x p l ≡ rest y q l)
-    → {o q : List Seen} → o ≡ q → {a c : State} → Same a c → {u v : Out} → SameOut u v → {m n k : List ℕ} → SameMem k m n → length m ≡ length k
-    → traceOn rest o a u m k ≡ traceOn rest q c v n k
+    → {a c : State} → Same a c → {u v : Stepped} → SameStep u v → traceOn rest a u ≡ traceOn rest c v
 unfolding traceOn
-trace-on rest ih e s (stops r) mem each = refl
-trace-on rest ih e s (goes w) mem each = ap₂ (λ (x y : List Seen). x ++ y) e (ih _ _ _ _ _ (after-same s w) mem each)
+trace-on rest ih s (stops r) = refl
+trace-on rest ih s (goes x w h each) = ap (λ (l : List Line). x ∷ l) (ih _ _ _ _ _ (after-same s w) h each)
 
 pub trace-same : (b i : ℕ) (t : List ℕ) (a c : State) (m n k : List ℕ) → Same a c → SameMem k m n → length m ≡ length k
     → traceOf b i t a m k ≡ traceOf b i t c n k
 unfolding traceOf
 trace-same zero i t a c m n k s mem each = refl
 trace-same (suc b) i t a c m n k s mem each =
-    let y : Stepped = stepOf (getD t i 0) c n k in
-    let w = stepped s mem each (getD t i 0) in
-    trace-on (traceOf b (i + 1) t) (trace-same b (i + 1) t) (w .seen) s (w .out) (w .mem) (w .each)
-    ∙ ap (λ (l : List ℕ). traceOn (traceOf b (i + 1) t) (seenOf (getD t i 0) c n k) c (y .out) (y .mem) l) (w .marks)
+    trace-on (traceOf b (i + 1) t) (trace-same b (i + 1) t) s (stepped s mem each (getD t i 0))
 
 -- ---- refusals
 
 form-same : {f : Flags} {a b : Control} → SameControl f a b → outOfForm a ≡ outOfForm b
-unfolding outOfForm withPsw
+unfolding outOfForm withSfr
 form-same s =
     ap₂ (λ (c : Control) (x : Bool).
     eqb (c .pc % 2) 1 || x || not (eqb (fieldOf (c .hwdbg) 0 2) 3) || ltb 511 (c .hwdbg) || (c .pending && ltb 0 (c .timer)))

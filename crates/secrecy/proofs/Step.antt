@@ -1,43 +1,47 @@
--- One step of two runs: it stops with the same answer, or both complete it and still differ only where marked; it shows the same.
+-- One step of two runs: it stops with the same answer, or both complete it, still differ only where marked, and show the same line.
 -- Assumes nothing.
 use Prim.Native.Nat.{ℕ, zero, suc, _+_, _/_, _%_}
-use mathlib.Core.Path.{_≡_, refl, ap, ap₂, subst, _∙_}
+use mathlib.Core.Path.{_≡_, refl, sym, ap, ap₂, subst, _∙_}
 use mathlib.Core.Bool.{Bool, true, false, cond, not, _&&_}
-use mathlib.Core.List.{List, [], _∷_}
+use mathlib.Core.List.{List}
 use native.Mathlib.Omega.{arith}
 use lib.Dec.{ltb, eqb, leb, lit≤}
 use lib.ListN.{length, getD}
 use Rattle.word.specs.Bits.{on}
-use Rattle.word.specs.Bytes.{bytesOf, anyOf}
-use Rattle.word.specs.Numbers.{wrap}
+use Rattle.word.specs.Bytes.{bytesOf}
+use Rattle.word.specs.declared.ByteAddr.{ByteAddr}
 use Rattle.word.specs.declared.Width.{Width}
 use Rattle.isa.specs.Codes.{kindOf}
-use Rattle.isa.specs.Decode as D
 use Rattle.isa.specs.declared.Kind.{Kind}
 use Rattle.isa.specs.declared.Instr.{Instr}
-use Rattle.cpu.specs.Control.{withPsw, tf}
-use Rattle.cpu.specs.Entries.{isBreak}
-use Rattle.cpu.specs.Exec.{exec, operandsOf, reachOf}
+use Rattle.cpu.specs.Control.{pcOf, withSfr, tf}
+use Rattle.cpu.specs.Entries.{isBreak, entered}
+use Rattle.cpu.specs.Exec.{exec, sourcesOf}
 use Rattle.cpu.specs.declared.Control.{Control}
 use Rattle.cpu.specs.declared.Effect.{Effect}
-use Rattle.cpu.specs.declared.Reach.{Reach}
+use Rattle.cpu.specs.declared.Entry.{Entry}
 use Rattle.marks.specs.Marks.{taint, blocked}
+use Rattle.marks.specs.Memory.{markedAt}
 use Rattle.marks.specs.declared.Flags.{Flags}
 use Rattle.marks.specs.declared.Taint.{Taint}
-use Rattle.machine.specs.Fetch.{found, halfAt, isLongKind, secondOf, restOf, fetchOf}
-use Rattle.machine.specs.Step.{Stepped, lowest, chosen, outside, loadedFrom, loadedMark, storedTo, markedTo, watchedBy, actOf, doneOf, actStep, instrStep, fetchStep, entryStep, eventStep, stepOf}
+use Rattle.instruction.specs.Fetch.{halfAt, afterHalf, fetchOf}
+use Rattle.instruction.specs.Act.{reachOf, outside, loadedFrom, loadedMark, actOf}
+use Rattle.instruction.specs.Parts.{halfOf, firstHalf, secondHalf, isLongKind, bySecond, restBy, byFirst}
+use Rattle.instruction.specs.declared.Reply.{Reply}
+use Rattle.instruction.specs.declared.Fetched.{Fetched}
+use Rattle.instruction.specs.declared.Half.{Half}
+use Rattle.instruction.specs.declared.Reach.{Reach}
+use Rattle.instruction.specs.declared.Act.{Act}
+use Rattle.instruction.proofs.Laws.{fetch-by-parts}
 use Rattle.machine.specs.State.{valueAt}
-use Rattle.machine.specs.Trace.{Seen, Entry, timer, external, debug, none, nowhere, at, entryBy, accessed, actSeen, fetchSeen, eventSeen, seenOf}
+use Rattle.machine.specs.Step.{Stepped, stopped, completed, lowest, chosen, storedTo, markedTo, entryBy, dataOf, entryDone, doneOf, lineOf, actStep, instrStep, fetchStep, eventStep, stepOf}
 use Rattle.machine.specs.declared.State.{State}
-use Rattle.machine.specs.declared.Reply.{Reply}
 use Rattle.machine.specs.declared.Event.{Event}
-use Rattle.machine.specs.declared.Fetched.{Fetched}
-use Rattle.machine.specs.declared.Act.{Act}
 use Rattle.machine.specs.declared.Done.{Done}
-use Rattle.machine.specs.declared.Out.{Out}
+use Rattle.machine.specs.declared.Line.{Line}
 use Rattle.secrecy.specs.Same.{SamePsw, SameControl, SameList, SameMem}
 use Rattle.secrecy.proofs.Psw.{bit-under, bit-over}
-use Rattle.secrecy.proofs.Control.{pc-same, falls, timers, externals, debugs, breaks, hits, watches}
+use Rattle.secrecy.proofs.Control.{pc-same, falls, entries, breaks, watches}
 use Rattle.secrecy.proofs.Exec.{SameEffect, exec-same, taint-same, reach-same}
 use Rattle.secrecy.proofs.Memory.{loaded, stored, stored-each}
 
@@ -50,21 +54,14 @@ pub record SameDone (d e : Done) : Type 0 where
   pub mark : d .mark ≡ e .mark
   pub value : d .mark ≡ false → d .value ≡ e .value
 
-pub data SameOut : Out → Out → Type 0 where
-  stops : (r : Reply) → SameOut (Out.Stop r) (Out.Stop r)
-  goes : {d e : Done} → SameDone d e → SameOut (Out.Go d) (Out.Go e)
-
 data SameAct : Act → Act → Type 0 where
   halts : (r : Reply) → SameAct (Act.Stop r) (Act.Stop r)
   does : {e g : Effect} (t : Taint) (r : Reach) → SameEffect t e g → SameAct (Act.Does e t r) (Act.Does g t r)
 
--- a step, and what it shows
-pub record SameStep (t u : Stepped) (o q : List Seen) : Type 0 where
-  pub out : SameOut (t .out) (u .out)
-  pub marks : t .marks ≡ u .marks
-  pub mem : SameMem (t .marks) (t .mem) (u .mem)
-  pub each : length (t .mem) ≡ length (t .marks)
-  pub seen : o ≡ q
+pub data SameStep : Stepped → Stepped → Type 0 where
+  stops : (r : Reply) → SameStep (stopped r) (stopped r)
+  goes : {d e : Done} {m n k : List ℕ} (x : Line) → SameDone d e → SameMem k m n → length m ≡ length k
+      → SameStep (completed d m k x) (completed e n k x)
 
 -- ---- the choice
 
@@ -77,10 +74,12 @@ lowest-same s (suc n) i t =
 -- what the choice looks at
 abbrev choice : Bool → Bool → Bool → Bool → ℕ → Bool → Event
 choice x y z p l b =
-    cond (x && not y) (cond (p && z) Event.Timer (cond (ltb l 6) (Event.Line l) (cond b Event.Break Event.Instruction))) (cond b Event.Break Event.Instruction)
+    cond (x && not y)
+    (cond (p && z) (Event.Enter Entry.Timer) (cond (ltb l 6) (Event.Enter (Entry.External l)) (cond b (Event.Enter (Entry.Debug 1)) Event.Instruction)))
+    (cond b (Event.Enter (Entry.Debug 1)) Event.Instruction)
 
 pending-same : {f : Flags} {a b : Control} → SameControl f a b → a .pending ≡ b .pending
-unfolding withPsw
+unfolding withSfr
 pending-same s = ap (λ (c : Control). c .pending) (s .rest)
 
 pub chosen-same : {f : Flags} {a b : Control} → SameControl f a b → (t : ℕ) → chosen t a ≡ chosen t b
@@ -100,34 +99,27 @@ unless true x y z f = refl
 unless false x y z f = f refl
 
 module _ {k m n : List ℕ} (s : SameMem k m n) (each : length m ≡ length k) where
-  half-same : (a : ℕ) → anyOf Width.Half k a ≡ false → halfAt m a ≡ halfAt n a
-  unfolding halfAt
-  half-same a h = loaded s each Width.Half a h
+  half-same : (a : ByteAddr) → halfOf a m k ≡ halfOf a n k
+  unfolding halfOf halfAt
+  half-same a =
+      ap₂ (λ (l : ℕ) (x : Half). cond (not (leb (a .0 + 2) l)) (Half.Stop Reply.FetchOutside) x) (s .long)
+      (unless (markedAt Width.Half k a) (Half.Stop Reply.FetchMarked) _ _ (λ e. ap Half.Bits (loaded s each Width.Half a e)))
 
-  -- outside of memory, marked, or x
-  abbrev guarded : ℕ → ℕ → Fetched → Fetched
-  guarded l a x = cond (not (leb (a + 2) l)) (Fetched.Stop Reply.FetchOutside) (cond (anyOf Width.Half k a) (Fetched.Stop Reply.FetchMarked) x)
+  rest-same : (d : Kind) (h : ℕ) (a : ByteAddr) → restBy d h a m k ≡ restBy d h a n k
+  unfolding restBy secondHalf
+  rest-same d h a = ap (λ (x : Half). bySecond (cond (isLongKind d) x (Half.Bits 0)) d h) (half-same (afterHalf a))
 
-  guarded-same : (a : ℕ) (x y : Fetched) → (anyOf Width.Half k a ≡ false → x ≡ y) → guarded (length m) a x ≡ guarded (length n) a y
-  guarded-same a x y f =
-      ap₂ (λ (l : ℕ) (z : Fetched). cond (not (leb (a + 2) l)) (Fetched.Stop Reply.FetchOutside) z) (s .long)
-      (unless (anyOf Width.Half k a) (Fetched.Stop Reply.FetchMarked) x y f)
+  by-first : (x : Half) (a : ByteAddr) → byFirst x a m k ≡ byFirst x a n k
+  by-first (Half.Stop r) a = refl
+  by-first (Half.Bits h) a = rest-same (kindOf (h / 256)) h a
 
-  second-same : (d : Kind) (h a : ℕ) → secondOf d h a m k ≡ secondOf d h a n k
-  unfolding secondOf
-  second-same d h a =
-      guarded-same a (found (D.operandsOf d h (halfAt m a))) (found (D.operandsOf d h (halfAt n a))) (λ e. ap (λ (x : ℕ). found (D.operandsOf d h x)) (half-same a e))
-
-  rest-same : (d : Kind) (h a : ℕ) → restOf d h a m k ≡ restOf d h a n k
-  unfolding restOf
-  rest-same d h a = ap (λ (x : Fetched). cond (isLongKind d) x (found (D.operandsOf d h 0))) (second-same d h (wrap (a + 2)))
-
-  pub fetch-same : (a : ℕ) → fetchOf a m k ≡ fetchOf a n k
-  unfolding fetchOf
+  pub fetch-same : (a : ByteAddr) → fetchOf a m k ≡ fetchOf a n k
+  unfolding firstHalf
   fetch-same a =
-      ap (λ (x : Fetched). cond (eqb (a % 2) 1) (Fetched.Stop Reply.NoInstruction) x)
-      (guarded-same a (restOf (kindOf (halfAt m a / 256)) (halfAt m a) a m k) (restOf (kindOf (halfAt n a / 256)) (halfAt n a) a n k)
-      (λ e. rest-same (kindOf (halfAt m a / 256)) (halfAt m a) a ∙ ap (λ (x : ℕ). restOf (kindOf (x / 256)) x a n k) (half-same a e)))
+      fetch-by-parts a m k
+      ∙ ap (λ (x : Half). byFirst (cond (eqb (a .0 % 2) 1) (Half.Stop Reply.NoInstruction) x) a m k) (half-same a)
+      ∙ by-first (firstHalf a n k) a
+      ∙ sym (fetch-by-parts a n k)
 
 -- ---- memory
 
@@ -136,50 +128,51 @@ module _ {k m n : List ℕ} (s : SameMem k m n) (each : length m ≡ length k) w
   outside-same Reach.Nowhere = refl
   outside-same (Reach.Reads w a) = ap (λ (l : ℕ). not (leb (a .0 + bytesOf w) l)) (s .long)
   outside-same (Reach.Writes w a) = ap (λ (l : ℕ). not (leb (a .0 + bytesOf w) l)) (s .long)
+  outside-same (Reach.Raises n) = refl
 
   loaded-same : (r : Reach) → loadedMark r k ≡ false → loadedFrom r m ≡ loadedFrom r n
   loaded-same Reach.Nowhere h = refl
-  loaded-same (Reach.Reads w a) h = loaded s each w (a .0) h
+  loaded-same (Reach.Reads w a) h = loaded s each w a h
   loaded-same (Reach.Writes w a) h = refl
+  loaded-same (Reach.Raises n) h = refl
 
   stored-same : (r : Reach) (b : Bool) (v x : ℕ) → (b ≡ false → v ≡ x) → SameMem (markedTo r b k) (storedTo r v m) (storedTo r x n)
   stored-same Reach.Nowhere b v x f = s
   stored-same (Reach.Reads w a) b v x f = s
-  stored-same (Reach.Writes w a) b v x f = stored s each w (a .0) b v x f
+  stored-same (Reach.Writes w a) b v x f = stored s each w a b v x f
+  stored-same (Reach.Raises n) b v x f = s
 
   each-same : (r : Reach) (b : Bool) (v : ℕ) → length (storedTo r v m) ≡ length (markedTo r b k)
   each-same Reach.Nowhere b v = each
   each-same (Reach.Reads w a) b v = each
-  each-same (Reach.Writes w a) b v = stored-each w k m (a .0) b v each
+  each-same (Reach.Writes w a) b v = stored-each w k m a b v each
+  each-same (Reach.Raises n) b v = each
 
 -- ---- an instruction
 
--- what an entry shows
-abbrev line : ℕ → Entry → List Seen
-line p x = record { pc = p; entry = x; address = nowhere } ∷ []
+entry-same : {f : Flags} {a b : Control} (r : Reach) → SameControl f a b → entryBy r a ≡ entryBy r b
+entry-same Reach.Nowhere s = refl
+entry-same (Reach.Reads w a) s = watches s a
+entry-same (Reach.Writes w a) s = watches s a
+entry-same (Reach.Raises n) s = refl
 
-reached : {f : Flags} {a b : Control} (r : Reach) → SameControl f a b → SameControl f (watchedBy r a) (watchedBy r b)
-reached Reach.Nowhere s = s
-reached (Reach.Reads w a) s = watches s (a .0)
-reached (Reach.Writes w a) s = watches s (a .0)
+entered-same : {f : Flags} {a b : Control} (r : Reach) → SameControl f a b → SameControl f (entered (entryBy r a) a) (entered (entryBy r b) b)
+entered-same {f} {a} {b} r s = subst (λ (e : Entry). SameControl f (entered (entryBy r a) a) (entered e b)) (entry-same r s) (entries s (entryBy r a))
 
 done-same : {f : Flags} {a b : Control} → SameControl f a b → (t : Taint) (r : Reach) {e g : Effect} → SameEffect t e g → SameDone (doneOf a e t r) (doneOf b g t r)
 unfolding doneOf
 done-same s t r e =
     record {
-      control = falls (reached r (e .control)) _ _ (ap₂ (λ (x y : Bool). x && not y) (bit-under (s .psw) 4 (lit≤ tt)) (e .wrote));
+      control = falls (entered-same r (e .control)) _ _ (ap₂ (λ (x y : Bool). x && not y) (bit-under (s .psw) 4 (lit≤ tt)) (e .wrote));
       flags = refl;
       reg = e .reg;
       mark = refl;
       value = e .value;
     }
 
-accessed-same : {f : Flags} {a b : Control} (r : Reach) (i : Instr) (p q : ℕ) → SameControl f a b → p ≡ q → accessed r i a p ≡ accessed r i b q
-accessed-same Reach.Nowhere i p q s e = ap (λ (n : ℕ). record { pc = n; entry = entryBy i; address = nowhere }) e
-accessed-same (Reach.Reads w a) i p q s e =
-    ap₂ (λ (n h : ℕ). record { pc = n; entry = cond (ltb 0 h) debug none; address = at (a .0) }) e (hits s (a .0))
-accessed-same (Reach.Writes w a) i p q s e =
-    ap₂ (λ (n h : ℕ). record { pc = n; entry = cond (ltb 0 h) debug none; address = at (a .0) }) e (hits s (a .0))
+line-same : {f g : Flags} {a b : Control} → SameControl f a b → (r : Reach) (e h : Effect) → SameControl g (e .control) (h .control) → lineOf a e r ≡ lineOf b h r
+unfolding lineOf
+line-same s r e h c = ap₂ (λ (p : ℕ) (x : Entry). record { pc = record { 0 = p }; entry = x; address = dataOf r }) (pc-same s) (entry-same r c)
 
 does-by : {e g : Effect} {t u : Taint} (r : Reach) → t ≡ u → SameEffect t e g → SameAct (Act.Does e t r) (Act.Does g u r)
 does-by {e} {g} {t} r p s = subst (λ (v : Taint). SameAct (Act.Does e t r) (Act.Does g v r)) p (does t r s)
@@ -231,46 +224,30 @@ module _ {km : List Bool} {ra rb : List ℕ} (regs : SameList false km ra rb) {f
 
   -- ---- the step
 
-  acted : {A B : Act} → SameAct A B → (i : Instr) (x : ℕ)
-      → SameStep (actStep A (valueAt one x) one m k) (actStep B (valueAt other x) other n k) (actSeen A i (a .pc)) (actSeen B i (b .pc))
-  acted (halts r) i x = record { out = stops r; marks = refl; mem = mem; each = each; seen = refl }
-  acted (does t r e) i x =
-      record {
-        out = goes (done-same s t r e);
-        marks = refl;
-        mem = stored-same mem each r _ _ _ (regs .equal x);
-        each = each-same mem each r _ _;
-        seen = ap (λ (o : Seen). o ∷ []) (accessed-same r i _ _ (e .control) (pc-same s));
-      }
+  acted : {A B : Act} → SameAct A B → (x : ℕ) → SameStep (actStep A (valueAt one x) a m k) (actStep B (valueAt other x) b n k)
+  acted (halts r) x = stops r
+  acted (does {e} {g} t r q) x =
+      subst (λ (l : Line). SameStep (actStep (Act.Does e t r) (valueAt one x) a m k) (completed (doneOf b g t r) (storedTo r (getD rb x 0) n) (markedTo r (getD km x false) k) l))
+      (line-same s r e g (q .control))
+      (goes (lineOf a e r) (done-same s t r q) (stored-same mem each r _ _ _ (regs .equal x)) (each-same mem each r _ _))
 
-  fetched : (x : Fetched) → SameStep (fetchStep x one m k) (fetchStep x other n k) (fetchSeen x one m k) (fetchSeen x other n k)
+  fetched : (x : Fetched) → SameStep (fetchStep x one m k) (fetchStep x other n k)
   unfolding instrStep
-  fetched (Fetched.Stop r) = record { out = stops r; marks = refl; mem = mem; each = each; seen = refl }
-  fetched (Fetched.Run i) = acted (act-same i (operandsOf i .first) (operandsOf i .second)) i (operandsOf i .first)
+  fetched (Fetched.Stop r) = stops r
+  fetched (Fetched.Run i) = acted (act-same i (sourcesOf i .first) (sourcesOf i .second)) (sourcesOf i .first)
 
-  entered : (c d : Control) (x : Entry) → SameControl f c d
-      → SameStep (entryStep c one m k) (entryStep d other n k) (line (a .pc) x) (line (b .pc) x)
-  entered c d x e =
-      record {
-        out = goes (record { control = falls e _ _ (bit-under (s .psw) 4 (lit≤ tt)); flags = refl; reg = refl; mark = refl; value = λ h. refl });
-        marks = refl;
-        mem = mem;
-        each = each;
-        seen = ap (λ (p : ℕ). line p x) (pc-same s);
-      }
-
-  happened : (v : Event) → SameStep (eventStep v one m k) (eventStep v other n k) (eventSeen v one m k) (eventSeen v other n k)
-  happened Event.Timer = entered _ _ timer (timers s)
-  happened (Event.Line i) = entered _ _ external (externals s i)
-  happened Event.Break = entered _ _ debug (debugs s 1 1 refl)
+  happened : (v : Event) → SameStep (eventStep v one m k) (eventStep v other n k)
+  unfolding entryDone
+  happened (Event.Enter e) =
+      subst (λ (p : ℕ). SameStep (eventStep (Event.Enter e) one m k) (completed (entryDone e other) n k (record { pc = record { 0 = p }; entry = e; address = dataOf Reach.Nowhere })))
+      (pc-same s)
+      (goes _ (record { control = falls (entries s e) _ _ (bit-under (s .psw) 4 (lit≤ tt)); flags = refl; reg = refl; mark = refl; value = λ h. refl }) mem each)
   happened Event.Instruction =
-      subst (λ (x : Fetched). SameStep (fetchStep (fetchOf (a .pc) m k) one m k) (fetchStep x other n k) (fetchSeen (fetchOf (a .pc) m k) one m k) (fetchSeen x other n k))
-      (ap (λ (p : ℕ). fetchOf p m k) (pc-same s) ∙ fetch-same mem each (b .pc))
-      (fetched (fetchOf (a .pc) m k))
+      subst (λ (x : Fetched). SameStep (fetchStep (fetchOf (pcOf a) m k) one m k) (fetchStep x other n k))
+      (ap (λ (p : ℕ). fetchOf (record { 0 = p }) m k) (pc-same s) ∙ fetch-same mem each (pcOf b))
+      (fetched (fetchOf (pcOf a) m k))
 
-  pub step-same : (t : ℕ) → SameStep (stepOf t one m k) (stepOf t other n k) (seenOf t one m k) (seenOf t other n k)
-  unfolding stepOf seenOf
+  pub step-same : (t : ℕ) → SameStep (stepOf t one m k) (stepOf t other n k)
+  unfolding stepOf
   step-same t =
-      subst (λ (v : Event). SameStep (eventStep (chosen t a) one m k) (eventStep v other n k) (eventSeen (chosen t a) one m k) (eventSeen v other n k))
-      (chosen-same s t)
-      (happened (chosen t a))
+      subst (λ (v : Event). SameStep (eventStep (chosen t a) one m k) (eventStep v other n k)) (chosen-same s t) (happened (chosen t a))

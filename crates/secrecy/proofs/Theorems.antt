@@ -6,7 +6,8 @@ use mathlib.Core.List.{List}
 use Rattle.machine.specs.Run.{runOf}
 use Rattle.machine.specs.declared.Ended.{Ended}
 use Rattle.machine.specs.declared.State.{State}
-use Rattle.secrecy.specs.Same.{SameMem, Same, SameFinal, shownOf}
+use Rattle.machine.specs.Trace.{shownOf}
+use Rattle.secrecy.specs.Same.{SameMem, Same, SameFinal}
 use Rattle.secrecy.proofs.Run.{ends-same, shown-same}
 
 -- Two runs with equal budget b, tape t and marks (Same and k), whose states a and c and memories m and n differ only in marked registers, flags and

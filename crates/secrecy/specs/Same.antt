@@ -3,16 +3,14 @@
 use Prim.Native.Nat.{ℕ}
 use mathlib.Core.Path.{_≡_}
 use mathlib.Core.Bool.{false}
-use mathlib.Core.List.{List, []}
+use mathlib.Core.List.{List}
 use lib.ListN.{length, getD}
 use Rattle.word.specs.Bits.{on, put}
 use Rattle.cpu.specs.Control.{withPsw}
 use Rattle.cpu.specs.declared.Control.{Control}
 use Rattle.marks.specs.declared.Flags.{Flags}
-use Rattle.machine.specs.Run.{Final, judge}
-use Rattle.machine.specs.Trace.{Seen, traceOf}
+use Rattle.machine.specs.Run.{Final}
 use Rattle.machine.specs.declared.State.{State}
-use Rattle.machine.specs.declared.Judged.{Judged}
 
 -- PSW with TF (bit 8) and CY (bit 9) made 0
 abbrev pub hide : ℕ → ℕ
@@ -53,11 +51,3 @@ pub record SameFinal (x y : Final) : Type 0 where
   pub state : Same (x .ended .state) (y .ended .state)
   pub marks : x .marks ≡ y .marks
   pub mem : SameMem (x .marks) (x .mem) (y .mem)
-
--- what a run shows: a line for each completed step, none if it is refused
-abbrev pub shown : Judged → ℕ → List ℕ → State → List ℕ → List ℕ → List Seen
-shown (Judged.Refused r) b t s m k = []
-shown Judged.Good b t s m k = traceOf b 0 t s m k
-
-unfoldable pub shownOf : ℕ → List ℕ → State → List ℕ → List ℕ → List Seen
-shownOf b t s m k = shown (judge b t s m k) b t s m k

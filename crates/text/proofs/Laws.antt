@@ -13,7 +13,7 @@ use borrow.Author.Tests.{lt-ltb, le-ltb, eq-eqb, ne-eqb}
 use lib.Pow.{pow-add, pow-mono}
 use lib.ListN.{length, getD, take, drop, set, length-drop, drop-of-length-le}
 use lib.Seq.{take-all, append-snoc, drop-cons, lt-length-set, getD-set-same, drop-set-lt}
-use Rattle.text.specs.Digits.{valueOf, glyphOf, numberOf, digitsOf, zerosOf, areHex}
+use Rattle.text.specs.Digits.{valueOf, glyphOf, digitsRead, digitsOf, zerosOf, areHex}
 use Rattle.text.specs.Fields.{tabOf, sameOf}
 use Rattle.text.specs.declared.Read.{Read}
 
@@ -22,12 +22,12 @@ module _ (l : List ℕ) (i : ℕ) (h : i < length l) where
   next = rw (add-one, drop-cons l i 0)
 
   -- a digit's value d is below the base, or it is not
-  pub number-on : (b v d : ℕ) → d ≡ valueOf (getD l i 0) → d < b → numberOf b v (drop i l) ≡ numberOf b (v * b + d) (drop (i + 1) l)
-  unfolding numberOf
+  pub number-on : (b v d : ℕ) → d ≡ valueOf (getD l i 0) → d < b → digitsRead b v (drop i l) ≡ digitsRead b (v * b + d) (drop (i + 1) l)
+  unfolding digitsRead
   number-on b v d e k = rw (next, ← e, lt-ltb d b k)
 
-  pub number-stop : (b v d : ℕ) → d ≡ valueOf (getD l i 0) → b ≤ d → numberOf b v (drop i l) ≡ Read.Nothing
-  unfolding numberOf
+  pub number-stop : (b v d : ℕ) → d ≡ valueOf (getD l i 0) → b ≤ d → digitsRead b v (drop i l) ≡ Read.Nothing
+  unfolding digitsRead
   number-stop b v d e k = rw (next, ← e, le-ltb d b k)
 
   pub hex-on : (d : ℕ) → d ≡ valueOf (getD l i 0) → d < 16 → areHex (drop i l) ≡ areHex (drop (i + 1) l)
@@ -75,8 +75,8 @@ module _ (l : List ℕ) (i : ℕ) (h : 1 < length l - i) where
 
 -- and from the end on
 module _ (l : List ℕ) (i : ℕ) (h : length l ≤ i) where
-  pub number-none : (b v : ℕ) → numberOf b v (drop i l) ≡ Read.Number v
-  unfolding numberOf
+  pub number-none : (b v : ℕ) → digitsRead b v (drop i l) ≡ Read.Number v
+  unfolding digitsRead
   number-none b v = rw (drop-of-length-le l h)
 
   pub tab-none : tabOf (drop i l) ≡ 0

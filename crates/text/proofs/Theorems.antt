@@ -10,7 +10,7 @@ use native.Mathlib.Omega.{arith}
 use lib.Dec.{ltb, eqb}
 use lib.ListN.{length, drop, replicate, length-append, length-drop, length-replicate, replicate-append-replicate}
 use borrow.Author.Tests.{ltb-true, ltb-false, lt-ltb, le-ltb, le-leb, eqb-true}
-use Rattle.text.specs.Digits.{valueOf, glyphOf, numberOf, digitsOf, leadingZero, decimalOf, zerosOf, addressOf, pairOf, hexText, decimalText}
+use Rattle.text.specs.Digits.{valueOf, glyphOf, digitsRead, digitsOf, leadingZero, decimalOf, zerosOf, addressOf, pairOf, hexText, decimalText}
 use Rattle.text.specs.declared.Read.{Read}
 
 -- a digit is worth the number that it was written for
@@ -27,17 +27,17 @@ value-glyph d h = go (ltb d 10) refl
         rw (le-ltb (87 + d) 48 (omega arith), le-ltb (87 + d) 58 (omega arith), le-ltb (87 + d) 97 (omega arith), lt-ltb (87 + d) 103 (omega arith)) (omega arith)
 
 -- one digit more is read
-number-snoc : (base v u d : ℕ) (l : List ℕ) → numberOf base v l ≡ Read.Number u → valueOf d < base
-    → numberOf base v (l ++ (d ∷ [])) ≡ Read.Number (u * base + valueOf d)
-unfolding numberOf
+number-snoc : (base v u d : ℕ) (l : List ℕ) → digitsRead base v l ≡ Read.Number u → valueOf d < base
+    → digitsRead base v (l ++ (d ∷ [])) ≡ Read.Number (u * base + valueOf d)
+unfolding digitsRead
 number-snoc base v u d [] e h =
     let q : v ≡ u = cc in
     rw (lt-ltb _ _ h, q)
 number-snoc base v u d (c ∷ l) e h = go (ltb (valueOf c) base) e (number-snoc base (v * base + valueOf c) u d l)
   where
-    go : (t : Bool) → cond t (numberOf base (v * base + valueOf c) l) Read.Nothing ≡ Read.Number u
-        → (numberOf base (v * base + valueOf c) l ≡ Read.Number u → valueOf d < base → numberOf base (v * base + valueOf c) (l ++ (d ∷ [])) ≡ Read.Number (u * base + valueOf d))
-        → cond t (numberOf base (v * base + valueOf c) (l ++ (d ∷ []))) Read.Nothing ≡ Read.Number (u * base + valueOf d)
+    go : (t : Bool) → cond t (digitsRead base (v * base + valueOf c) l) Read.Nothing ≡ Read.Number u
+        → (digitsRead base (v * base + valueOf c) l ≡ Read.Number u → valueOf d < base → digitsRead base (v * base + valueOf c) (l ++ (d ∷ [])) ≡ Read.Number (u * base + valueOf d))
+        → cond t (digitsRead base (v * base + valueOf c) (l ++ (d ∷ []))) Read.Nothing ≡ Read.Number (u * base + valueOf d)
     go true q f = f q h
     go false q f = let z : _≡_ {A = ℕ} 0 1 = cc in absurd (omega arith)
 
@@ -56,8 +56,8 @@ module _ (base : ℕ) (low : 0 < base) (high : base ≤ 16) where
   digit n = value-glyph (n % base) (omega (arith, mod-lt n low))
 
   -- the digits of n, after a number v
-  after : (w n v : ℕ) → n < base ^ w → numberOf base v (digitsOf base w n) ≡ Read.Number (v * base ^ w + n)
-  unfolding numberOf digitsOf
+  after : (w n v : ℕ) → n < base ^ w → digitsRead base v (digitsOf base w n) ≡ Read.Number (v * base ^ w + n)
+  unfolding digitsRead digitsOf
   after zero n v h =
       let one : n < 1 = rw pow-zero at h in
       let e : v ≡ v * 1 + n = omega (arith, one) in
@@ -68,7 +68,7 @@ module _ (base : ℕ) (low : 0 < base) (high : base ≤ 16) where
       ∙ ap Read.Number (ap (λ (x : ℕ). (v * base ^ w + n / base) * base + x) (digit n) ∙ rw pow-suc (joined v (base ^ w) (n / base) base (n % base) n (div-add-mod' n base)))
 
   -- w digits of n read as n
-  pub read-written : (w n : ℕ) → n < base ^ w → numberOf base 0 (digitsOf base w n) ≡ Read.Number n
+  pub read-written : (w n : ℕ) → n < base ^ w → digitsRead base 0 (digitsOf base w n) ≡ Read.Number n
   read-written w n h =
       let e : 0 * base ^ w + n ≡ n = omega (arith, zero-mul (base ^ w)) in
       after w n 0 h ∙ ap Read.Number e
@@ -81,14 +81,14 @@ module _ (base : ℕ) (low : 0 < base) (high : base ≤ 16) where
       cc
 
   -- leading zeros are worth nothing
-  pub zeros-free : (l : List ℕ) → numberOf base 0 (drop (zerosOf l) l) ≡ numberOf base 0 l
-  unfolding numberOf zerosOf valueOf
+  pub zeros-free : (l : List ℕ) → digitsRead base 0 (drop (zerosOf l) l) ≡ digitsRead base 0 l
+  unfolding digitsRead zerosOf valueOf
   zeros-free [] = refl
   zeros-free (c ∷ []) = refl
   zeros-free (c ∷ d ∷ l) = go (eqb c 48) refl (zeros-free (d ∷ l))
     where
-      go : (t : Bool) → eqb c 48 ≡ t → numberOf base 0 (drop (zerosOf (d ∷ l)) (d ∷ l)) ≡ numberOf base 0 (d ∷ l)
-          → numberOf base 0 (drop (cond t (suc (zerosOf (d ∷ l))) 0) (c ∷ d ∷ l)) ≡ numberOf base 0 (c ∷ d ∷ l)
+      go : (t : Bool) → eqb c 48 ≡ t → digitsRead base 0 (drop (zerosOf (d ∷ l)) (d ∷ l)) ≡ digitsRead base 0 (d ∷ l)
+          → digitsRead base 0 (drop (cond t (suc (zerosOf (d ∷ l))) 0) (c ∷ d ∷ l)) ≡ digitsRead base 0 (c ∷ d ∷ l)
       go true e q =
           let z : 0 * base + 0 ≡ 0 = omega (arith, zero-mul base) in
           q ∙ sym (rw (eqb-true c 48 e, lt-ltb 0 base low, z))
@@ -182,7 +182,7 @@ some n =
     let f : zerosOf (digitsOf 10 20 n) < length (digitsOf 10 20 n) = fewer (digitsOf 10 20 n) (rw (twenty n) (omega arith)) in
     rw length-drop (omega arith)
 
-pub read-decimal : (n : ℕ) → n < 10 ^ 20 → numberOf 10 0 (decimalText n) ≡ Read.Number n
+pub read-decimal : (n : ℕ) → n < 10 ^ 20 → digitsRead 10 0 (decimalText n) ≡ Read.Number n
 read-decimal n h = zeros-free 10 (omega arith) (omega arith) (digitsOf 10 20 n) ∙ read-written 10 (omega arith) (omega arith) 20 n h
 
 -- a decimal of up to five digits reads back

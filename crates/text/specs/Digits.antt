@@ -16,9 +16,9 @@ unfoldable pub glyphOf : ℕ → ℕ
 glyphOf d = cond (ltb d 10) (48 + d) (87 + d)
 
 -- the number that digits of a base write after v, or nothing if a byte is no such digit
-unfoldable pub numberOf : ℕ → ℕ → List ℕ → Read
-numberOf base v [] = Read.Number v
-numberOf base v (c ∷ l) = cond (ltb (valueOf c) base) (numberOf base (v * base + valueOf c) l) Read.Nothing
+unfoldable pub digitsRead : ℕ → ℕ → List ℕ → Read
+digitsRead base v [] = Read.Number v
+digitsRead base v (c ∷ l) = cond (ltb (valueOf c) base) (digitsRead base (v * base + valueOf c) l) Read.Nothing
 
 -- the last w digits of n in a base, the highest first
 unfoldable pub digitsOf : ℕ → ℕ → ℕ → List ℕ
@@ -34,7 +34,7 @@ abbrev pub isShort : List ℕ → Bool
 isShort l = leb 1 (length l) && leb (length l) 5
 
 abbrev pub decimalOf : List ℕ → Read
-decimalOf l = cond (isShort l) (cond (leadingZero l) Read.Nothing (numberOf 10 0 l)) Read.Nothing
+decimalOf l = cond (isShort l) (cond (leadingZero l) Read.Nothing (digitsRead 10 0 l)) Read.Nothing
 
 -- how many zeros lead, before the last digit
 unfoldable pub zerosOf : List ℕ → ℕ
@@ -45,7 +45,7 @@ zerosOf (c ∷ d ∷ l) = cond (eqb c 48) (suc (zerosOf (d ∷ l))) 0
 -- ---- hex: an address, "8 hex digits", and bytes, two digits each
 
 abbrev pub addressOf : List ℕ → Read
-addressOf l = cond (eqb (length l) 8) (numberOf 16 0 l) Read.Nothing
+addressOf l = cond (eqb (length l) 8) (digitsRead 16 0 l) Read.Nothing
 
 unfoldable pub areHex : List ℕ → Bool
 areHex [] = true

@@ -2,7 +2,7 @@
 ghost use mathlib.Core.Path.{_≡_};
 ghost use Prim.Native.Nat.{_≤_, _<_};
 ghost use lib.ListN.{length};
-ghost use Rattle.text.specs.Digits.{valueOf, glyphOf, numberOf, digitsOf, leadingZero, decimalOf, zerosOf, addressOf, areHex, pairOf, hexText};
+ghost use Rattle.text.specs.Digits.{valueOf, glyphOf, digitsRead, digitsOf, leadingZero, decimalOf, zerosOf, addressOf, areHex, pairOf, hexText};
 ghost use Rattle.text.specs.Fields.{tabOf, beforeOf, beyondOf, sameOf};
 
 // What a field says.
@@ -90,7 +90,7 @@ fn value(c: u8) -> u32
 
 fn number(base: u32, l: &[u8]) -> Read
     requires { ⌜ (base ≤ 16) × (length (now l) ≤ 8) ⌝ }
-    ensures { λ r. ⌜ r ≡ numberOf base 0 (now (l .entry)) ⌝ }
+    ensures { λ r. ⌜ r ≡ digitsRead base 0 (now (l .entry)) ⌝ }
 {
     let mut v: u64 = 0;
     let mut i: usize = 0;

@@ -14,6 +14,7 @@ use borrow.Author.Tests.{eqb-true, eqb-false}
 use lib.ListN.{length, getD, set, length-set, drop, drop-of-length-le}
 use lib.Seq.{getD-set-same, getD-set-other, set-comm, drop-cons}
 use Rattle.word.specs.Bytes.{inside, load, store, fill, any, loadOf, anyAbove}
+use Rattle.word.specs.declared.ByteAddr.{ByteAddr}
 use Rattle.word.specs.declared.Width.{Width}
 
 -- one more byte
@@ -152,9 +153,12 @@ unfolding anyAbove
 above-none n l i h = ap (anyAbove n) (drop-of-length-le l h)
 
 -- a half is below 65,536, since each byte is below 256
-pub half-lt : (m : List ℕ) (a : ℕ) → ((i : ℕ) → getD m i 0 < 256) → loadOf Width.Half m a < 65536
-half-lt m a h = go (inside m a 2)
+pub half-lt : (m : List ℕ) (at : ByteAddr) → ((i : ℕ) → getD m i 0 < 256) → loadOf Width.Half m at < 65536
+half-lt m at h = go (inside m at 2)
   where
+    a : ℕ
+    a = at .0
+
     two : load (0 + 1 + 1) m a < 2 ^ (8 * (0 + 1 + 1))
     two =
         subst (λ (n : ℕ). n < 2 ^ (8 * (0 + 1 + 1))) (sym (load-more 1 m a))

@@ -10,7 +10,8 @@ use lib.Dec.{ltb, leb, lit<}
 use lib.Pow.{pow-pos, pow-add, pow-mono, shl-exact, shr-le, shr-mono, high, low, ones-split, high-ones}
 use borrow.Author.Tests.{ltb-true, ltb-false, leb-true, leb-false, lt-ltb, le-ltb, le-leb, lt-leb, eqb-true, eq-eqb, ne-eqb}
 use Rattle.word.specs.Bits.{num, on, fieldOf}
-use Rattle.word.specs.Numbers.{wrap, differenceOf, lessOf, negativeOf, overflowOf, signedOf, extendOf, fitsOf}
+use Rattle.word.specs.Numbers.{wrap, differenceOf, lessOf, signedOf, extendOf, fitsOf}
+use Rattle.word.specs.Flags.{negativeOf, overflowOf}
 
 -- a wrapped difference, from what subtracting twice leaves
 pub difference : (x y n r s : ℕ) → y < 2 ^ 32 → n < 2 → r < 2 ^ 32 → s < 2 ^ 32 → (r + y) % 2 ^ 32 ≡ x → (s + n) % 2 ^ 32 ≡ r
@@ -112,6 +113,10 @@ sign z h = go (leb (2 ^ 31) z) refl
         let l = leb-false (2 ^ 31) z e in
         let b : z / 2 ^ 31 % 2 ^ 1 ≡ 0 = omega arith in
         rw b
+
+-- the sign of the difference alone is not the order: it errs where the difference overflows
+pub sign-alone-errs : lessOf 0x80000000 0x7fffffff ≡ not (negativeOf 0x80000000 0x7fffffff)
+sign-alone-errs = refl
 
 -- the signed order is the sign of the difference, turned round where the subtraction overflows
 pub less-by-flags : (x y : ℕ) → x < 2 ^ 32 → y < 2 ^ 32 → lessOf x y ≡ xor (negativeOf x y) (overflowOf x y)

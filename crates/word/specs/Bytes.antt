@@ -5,6 +5,7 @@ use mathlib.Core.Bool.{Bool, false, cond, _||_}
 use mathlib.Core.List.{List, [], _∷_}
 use lib.Dec.{ltb, leb}
 use lib.ListN.{length, getD, set}
+use Rattle.word.specs.declared.ByteAddr.{ByteAddr}
 use Rattle.word.specs.declared.Width.{Width}
 
 abbrev pub bytesOf : Width → ℕ
@@ -13,8 +14,8 @@ bytesOf Width.Half = 2
 bytesOf Width.Word = 4
 
 -- the n bytes at a lie inside m
-abbrev pub inside : List ℕ → ℕ → ℕ → Bool
-inside m a n = leb (a + n) (length m)
+abbrev pub inside : List ℕ → ByteAddr → ℕ → Bool
+inside m a n = leb (a .0 + n) (length m)
 
 -- the number that the n bytes at a make, the first the highest
 unfoldable pub load : ℕ → List ℕ → ℕ → ℕ
@@ -37,17 +38,17 @@ any zero m a = false
 any (suc n) m a = any n m a || ltb 0 (getD m (a + n) 0)
 
 -- The same by width, for every address: what does not lie inside reads as 0, and writing there changes nothing.
-abbrev pub loadOf : Width → List ℕ → ℕ → ℕ
-loadOf w m a = cond (inside m a (bytesOf w)) (load (bytesOf w) m a) 0
+abbrev pub loadOf : Width → List ℕ → ByteAddr → ℕ
+loadOf w m a = cond (inside m a (bytesOf w)) (load (bytesOf w) m (a .0)) 0
 
-abbrev pub storeOf : Width → List ℕ → ℕ → ℕ → List ℕ
-storeOf w m a v = cond (inside m a (bytesOf w)) (store (bytesOf w) m a v) m
+abbrev pub storeOf : Width → List ℕ → ByteAddr → ℕ → List ℕ
+storeOf w m a v = cond (inside m a (bytesOf w)) (store (bytesOf w) m (a .0) v) m
 
-abbrev pub fillOf : Width → List ℕ → ℕ → ℕ → List ℕ
-fillOf w m a b = cond (inside m a (bytesOf w)) (fill (bytesOf w) m a b) m
+abbrev pub fillOf : Width → List ℕ → ByteAddr → ℕ → List ℕ
+fillOf w m a b = cond (inside m a (bytesOf w)) (fill (bytesOf w) m (a .0) b) m
 
-abbrev pub anyOf : Width → List ℕ → ℕ → Bool
-anyOf w m a = cond (inside m a (bytesOf w)) (any (bytesOf w) m a) false
+abbrev pub anyOf : Width → List ℕ → ByteAddr → Bool
+anyOf w m a = cond (inside m a (bytesOf w)) (any (bytesOf w) m (a .0)) false
 
 -- a number above n in a list
 unfoldable pub anyAbove : ℕ → List ℕ → Bool

@@ -1,7 +1,7 @@
 -- Arithmetic of 32-bit words: document 01, "Instructions", and the guide's instruction tables.
 -- Assumes nothing.
 use Prim.Native.Nat.{ℕ, _+_, _*_, _-_, _/_, _%_, _^_}
-use mathlib.Core.Bool.{Bool, false, cond, not, Bool·beq, _&&_}
+use mathlib.Core.Bool.{Bool, cond}
 use lib.Dec.{ltb, leb, eqb}
 use Rattle.word.specs.Bits.{num, on}
 
@@ -43,13 +43,6 @@ asrOf x n = cond (ltb 31 n) (signs x 32) (x / 2 ^ n + signs x n)
 -- the order of the signed numbers that two words stand for
 abbrev pub lessOf : ℕ → ℕ → Bool
 lessOf x y = ltb (wrap (x + 2 ^ 31)) (wrap (y + 2 ^ 31))
-
--- what a compare's subtraction leaves (the guide, "Compare Instructions"): the sign of x - y, and whether that overflows
-abbrev pub negativeOf : ℕ → ℕ → Bool
-negativeOf x y = on (differenceOf x y false) 31
-
-abbrev pub overflowOf : ℕ → ℕ → Bool
-overflowOf x y = not (Bool·beq (on x 31) (on y 31)) && not (Bool·beq (on x 31) (negativeOf x y))
 
 -- of 2k patterns n, the number from -k to k - 1 that it stands for, modulo 2^32
 abbrev pub signedOf : ℕ → ℕ → ℕ

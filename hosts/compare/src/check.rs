@@ -3,8 +3,7 @@
 use second::run::Outcome;
 use second::step::Step;
 
-use crate::machine::{blotted, by_second, scrambled, End, Input, Observed};
-use crate::random::Random;
+use crate::machine::{blotted, by_second, End, Input, Observed};
 
 /// What one case showed.
 pub struct Agreement {
@@ -23,18 +22,17 @@ pub struct Disagreement {
     pub text: String,
 }
 
-/// Runs the input, and the input scrambled where marked, through the library and the second
+/// Runs an input, and one with other contents where marked, through the library and the second
 /// program. All four ends are compared, and the traces of the second program's two runs.
 pub fn check(
     input: &Input,
-    random: &mut Random,
+    scrambled: &Input,
     library: impl Fn(&Input) -> End,
 ) -> Result<Agreement, Disagreement> {
     let Observed { end, outcome, trace } = by_second(input);
     same_end("library and second program", &library(input), &end)?;
-    let other_input = scrambled(input, random);
-    let other = by_second(&other_input);
-    let other_end = library(&other_input);
+    let other = by_second(scrambled);
+    let other_end = library(scrambled);
     same_end("library and second program, scrambled", &other_end, &other.end)?;
     same_trace(&trace, &other.trace)?;
     let told_apart = end.steps > 0 && end != other_end;
@@ -62,7 +60,8 @@ fn same_trace(one: &[Step], other: &[Step]) -> Result<(), Disagreement> {
         return Ok(());
     }
     let place = one.iter().zip(other).take_while(|(one, other)| one == other).count();
-    let text = format!("step {place}: {:x?} and {:x?}", one.get(place), other.get(place));
+    let number = place + 1;
+    let text = format!("step {number}: {:x?} and {:x?}", one.get(place), other.get(place));
     Err(Disagreement { about: "traces of the first and the scrambled run", text })
 }
 

@@ -9,24 +9,29 @@ mod report;
 mod tests;
 
 use std::env;
+use std::io::{self, ErrorKind, Write};
 use std::process::ExitCode;
 use std::time::{Duration, Instant};
 
 use cases::Cases;
 use check::check;
-use machine::by_library;
+use machine::{by_library, scrambled};
 use random::Random;
 use report::Reached;
 
-const USAGE: &str = "usage: tools/compare N SEED            compares cases 0 to N-1 of this seed
-       tools/compare --case SEED INDEX    writes one case in full and compares it
-";
+const USAGE: &str = include_str!("usage.txt");
 
 /// With as many cases as this, something that was not reached is a failure.
 const MANY: u64 = 20_000;
 
 /// How often progress is shown.
 const PAUSE: Duration = Duration::from_secs(5);
+
+/// What a call writes, and whether all was as it should be.
+struct Verdict {
+    text: String,
+    good: bool,
+}
 
 fn main() -> ExitCode {
     let arguments: Vec<String> = env::args().skip(1).collect();
@@ -37,8 +42,8 @@ fn main() -> ExitCode {
         .map(|n| n.parse().ok())
         .collect();
     match (&arguments[..], numbers.as_deref()) {
-        (["--case", _, _], Some(&[seed, index])) => one(seed, index),
-        ([_, _], Some(&[n, seed])) => many(n, seed),
+        (["--case", _, _], Some(&[seed, index])) => tell(one(seed, index)),
+        ([_, _], Some(&[n, seed])) => tell(many(n, seed)),
         _ => {
             eprint!("{USAGE}");
             ExitCode::from(2)
@@ -46,59 +51,64 @@ fn main() -> ExitCode {
     }
 }
 
+/// Writes the text. Whoever closed the output wants no more of it; the status tells all the same.
+fn tell(Verdict { text, good }: Verdict) -> ExitCode {
+    let mut output = io::stdout().lock();
+    match output.write_all(text.as_bytes()).and_then(|()| output.flush()) {
+        Err(error) if error.kind() != ErrorKind::BrokenPipe => {
+            eprintln!("tools/compare: {error}");
+            ExitCode::FAILURE
+        }
+        _ if good => ExitCode::SUCCESS,
+        _ => ExitCode::FAILURE,
+    }
+}
+
 /// Compares many cases; stops at the first disagreement.
-fn many(n: u64, seed: u64) -> ExitCode {
+fn many(n: u64, seed: u64) -> Verdict {
     let (cases, mut reached) = (Cases::new(), Reached::default());
     let (began, mut shown) = (Instant::now(), Instant::now());
     for index in 0..n {
         let mut random = Random::new(seed, index);
         let input = cases.case(&mut random);
-        match check(&input, &mut random, by_library) {
+        match check(&input, &scrambled(&input, &mut random), by_library) {
             Ok(agreement) => reached.add(input, agreement.outcome, agreement.told_apart),
             Err(disagreement) => {
-                println!("case {index} of seed {seed}: {}", disagreement.about);
-                println!("{}", disagreement.text);
-                println!("alone: tools/compare --case {seed} {index}");
-                return ExitCode::FAILURE;
+                let text = format!(
+                    "case {index} of seed {seed}: {}\n{}\nalone: tools/compare --case {seed} {index}\n",
+                    disagreement.about, disagreement.text
+                );
+                return Verdict { text, good: false };
             }
         }
         if shown.elapsed() > PAUSE {
             shown = Instant::now();
-            eprintln!("{} of {n} cases, {} seconds", index + 1, began.elapsed().as_secs());
+            // Nobody may be looking.
+            let seconds = began.elapsed().as_secs();
+            let _ = writeln!(io::stderr(), "{} of {n} cases, {seconds} seconds", index + 1);
         }
     }
     summary(n, seed, &reached)
 }
 
-fn summary(n: u64, seed: u64, reached: &Reached) -> ExitCode {
-    print!("{}", reached.text());
-    println!("{n} cases of seed {seed}: all agree.");
+fn summary(n: u64, seed: u64, reached: &Reached) -> Verdict {
     let missing = reached.missing();
-    if missing.is_empty() {
-        println!("Every refusal, stop, entry and instruction was reached.");
-        return ExitCode::SUCCESS;
-    }
-    println!("Not reached: {}.", missing.join(", "));
-    if n < MANY {
-        ExitCode::SUCCESS
-    } else {
-        ExitCode::FAILURE
-    }
+    let last = match &missing[..] {
+        [] => "Every refusal, stop, entry and instruction was reached.".to_string(),
+        missing => format!("Not reached: {}.", missing.join(", ")),
+    };
+    let text = format!("{}{n} cases of seed {seed}: all agree.\n{last}\n", reached.text());
+    Verdict { text, good: missing.is_empty() || n < MANY }
 }
 
 /// Writes one case and compares it.
-fn one(seed: u64, index: u64) -> ExitCode {
+fn one(seed: u64, index: u64) -> Verdict {
     let mut random = Random::new(seed, index);
     let input = Cases::new().case(&mut random);
-    print!("{}", report::case(&input));
-    match check(&input, &mut random, by_library) {
-        Ok(_) => {
-            println!("All agree.");
-            ExitCode::SUCCESS
-        }
-        Err(disagreement) => {
-            println!("{}: {}", disagreement.about, disagreement.text);
-            ExitCode::FAILURE
-        }
-    }
+    let other = scrambled(&input, &mut random);
+    let (verdict, good) = match check(&input, &other, by_library) {
+        Ok(_) => ("All agree.".to_string(), true),
+        Err(disagreement) => (format!("{}: {}", disagreement.about, disagreement.text), false),
+    };
+    Verdict { text: format!("{}{verdict}\n", report::case(&input, &other)), good }
 }

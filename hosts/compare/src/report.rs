@@ -1,10 +1,11 @@
 //! What is written: the coverage of many cases, and one case in full.
 
+use manik::Reply;
 use second::corpus::Coverage;
-use second::isa::decode;
+use second::isa::{decode, needs_second};
 use second::record;
 use second::run::Outcome;
-use second::step::step;
+use second::step::{step, Entry, Step};
 
 use crate::machine::{by_library, by_second, End, Input};
 
@@ -59,41 +60,95 @@ impl Reached {
 const MOST_STEPS: usize = 200;
 const MOST_BYTES: usize = 1_024;
 
-/// A case in full: its input, what each step of the second program did, and both ends.
-pub fn case(input: &Input) -> String {
+/// A case in full: its input, what each step of the second program did, and both ends; then the
+/// same of the scrambled run, whose marks, tape and budget are the first's.
+pub fn case(input: &Input, scrambled: &Input) -> String {
     let mut text = format!(
-        "budget {}\n{}\nmemory {} bytes {}\nmarks {} bytes, at {:x?}\ntape {} bytes {}\n",
+        "First run\nbudget {}\nmarks {} bytes, at {:x?}\ntape {} bytes {}\n",
         input.budget,
-        state(&input.record),
-        input.memory.len(),
-        hex(&input.memory),
         input.marks.len(),
         nonzero(&input.marks),
         input.tape.len(),
         hex(&input.tape),
     );
-    text += &steps(input);
-    text += &end("library", &by_library(input));
-    text += &end("second program", &by_second(input).end);
-    text
+    text += &run(input);
+    text += "\nScrambled run\n";
+    if scrambled == input {
+        text + "the same: no content was changed\n\n"
+    } else {
+        text + &run(scrambled) + "\n"
+    }
 }
 
-/// A line for each step of the second program: what it shows, and the instruction that was next.
+/// A run: where it begins, its steps, and both ends.
+fn run(input: &Input) -> String {
+    let Input { record, memory, .. } = input;
+    let begin = format!("{}\nmemory {} bytes {}\n", state(record), memory.len(), hex(memory));
+    let library = end("library", &by_library(input));
+    let second = end("second program", &by_second(input).end);
+    begin + &steps(input) + &library + &second
+}
+
+/// A line for each step of the second program, the one that stops among them; of very many the
+/// first and the last ones.
 fn steps(input: &Input) -> String {
-    let Some(mut state) = record::read(&input.record) else { return String::new() };
-    let Input { mut memory, mut marks, tape, .. } = input.clone();
-    let completed = by_second(input).end.steps as usize;
-    let mut text = String::new();
-    for (number, &lines) in tape[..completed].iter().enumerate().take(MOST_STEPS) {
-        let half = |at: usize| {
-            memory.get(at..at + 2).map_or(0, |half| u16::from_be_bytes([half[0], half[1]]))
-        };
-        let pc = state.pc as usize;
-        let instr = decode(half(pc), half(pc.saturating_add(2)));
-        let shown = step(&mut state, &mut memory, &mut marks, lines).expect("it was completed");
-        text += &format!("step {number}: {shown:x?} {instr:x?}\n");
+    let mut lines = step_lines(input);
+    if lines.len() > MOST_STEPS {
+        let (first, last) = (MOST_STEPS / 2, lines.len() - MOST_STEPS / 2);
+        lines.splice(first..last, [format!("steps {} to {last} are left out\n", first + 1)]);
     }
-    text
+    lines.concat()
+}
+
+fn step_lines(input: &Input) -> Vec<String> {
+    let (Some(mut state), Some(outcome)) = (record::read(&input.record), by_second(input).outcome)
+    else {
+        return Vec::new();
+    };
+    if outcome.reply.is_refusal() {
+        return Vec::new();
+    }
+    let Input { mut memory, mut marks, tape, budget, .. } = input.clone();
+    let mut lines = Vec::new();
+    for (number, &high) in (1..=budget).zip(&tape) {
+        let (pc, next) = (state.pc, instruction_at(&memory, state.pc));
+        match step(&mut state, &mut memory, &mut marks, high) {
+            Ok(shown) if took_its_place(&shown) => {
+                lines.push(format!("step {number}: {shown:x?}\n"));
+            }
+            Ok(shown) => lines.push(format!("step {number}: {shown:x?} {next}\n")),
+            Err(reply) => {
+                let reply = Reply::from_number(reply.number()).expect("a number of document 01");
+                let stop = format!("step {number} stops with {} ({reply})", reply.number());
+                lines.push(format!("{stop}: pc {pc:x} {next}\n"));
+                break;
+            }
+        }
+    }
+    lines
+}
+
+/// Whether the step's entry took the place of an instruction. That of a swint and that of a
+/// watchpoint, which has an address, come with theirs.
+fn took_its_place(step: &Step) -> bool {
+    match step.entry {
+        Some(Entry::Timer | Entry::External) => true,
+        Some(Entry::Debug) => step.address.is_none(),
+        Some(Entry::Swint) | None => false,
+    }
+}
+
+/// The instruction at an address; of bits that are none or only the start of one, the first half.
+fn instruction_at(memory: &[u8], address: u32) -> String {
+    let half = |at: usize| Some(u16::from_be_bytes(memory.get(at..at + 2)?.try_into().ok()?));
+    let Some(first) = half(address as usize) else {
+        return "outside memory".to_string();
+    };
+    let instr = match half(address as usize + 2) {
+        None if needs_second(first) => None,
+        second => decode(first, second.unwrap_or(0)),
+    };
+    instr.map_or(format!("bits {first:04x}"), |instr| format!("{instr:x?}"))
 }
 
 /// The state of a record, a star behind what is marked; or its bytes if it is out of shape.

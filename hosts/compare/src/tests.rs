@@ -1,11 +1,14 @@
 //! The comparer itself: its cases are the same each time, and it finds wrong models.
 
+use second::corpus::{assemble, Line};
 use second::record;
+use second::state::{hwdbg, psw, State};
 
 use crate::cases::Cases;
 use crate::check::check;
 use crate::machine::{blotted, by_library, by_second, scrambled, End, Input};
 use crate::random::Random;
+use crate::report;
 
 /// The case with this number, and the numbers that are left for scrambling.
 fn case(cases: &Cases, index: u64) -> (Input, Random) {
@@ -46,7 +49,7 @@ fn is_found(model: impl Fn(&Input) -> End) -> bool {
     let cases = Cases::new();
     (0..1_000).any(|index| {
         let (input, mut random) = case(&cases, index);
-        check(&input, &mut random, &model).is_err()
+        check(&input, &scrambled(&input, &mut random), &model).is_err()
     })
 }
 
@@ -133,4 +136,96 @@ fn a_leak_shows_in_two_runs() {
         blotted(leak(&input)) != blotted(leak(&other))
     });
     assert!(found);
+}
+
+/// An input with this code at 0 in 32 bytes, and so many steps with all lines low.
+fn input(code: &[Line], state: &State, budget: usize) -> Input {
+    let mut memory = assemble(code);
+    memory.resize(32, 0);
+    let (marks, tape) = (vec![0; 32], vec![0; budget]);
+    Input { record: record::write(state).to_vec(), memory, marks, tape, budget: budget as u64 }
+}
+
+/// The lines on steps in what is written of a run.
+fn step_lines(input: &Input) -> Vec<String> {
+    let text = report::case(input, input);
+    text.lines().filter(|line| line.starts_with("step")).map(String::from).collect()
+}
+
+#[test]
+fn steps_count_from_1_and_the_stopping_one_is_shown() {
+    let code: &[Line] = &[("movi", &[1, 16]), ("sjt", &[2])];
+    let state = State { tf_marked: true, ..State::fresh() };
+    let lines = step_lines(&input(code, &state, 9));
+    let [first, stop] = &lines[..] else { panic!("{lines:?}") };
+    assert!(
+        first.starts_with("step 1: ") && first.ends_with(" Movi { rd: 1, simm8: 10 }"),
+        "{first}"
+    );
+    let words = "step 2 stops with 14 (a marked operand where none may be): pc 2 ShortJump {";
+    assert!(stop.starts_with(words), "{stop}");
+}
+
+#[test]
+fn a_stop_shows_bits_that_are_no_instruction() {
+    let no_instruction = step_lines(&input(&[], &State { pc: 2, ..State::fresh() }, 1));
+    assert_eq!(
+        no_instruction,
+        ["step 1 stops with 13 (bits that are no instruction): pc 2 bits 0000"]
+    );
+    let outside = step_lines(&input(&[], &State { pc: 32, ..State::fresh() }, 1));
+    let words = "step 1 stops with 11 (instruction fetch outside memory): pc 20 outside memory";
+    assert_eq!(outside, [words]);
+    let mut cut = input(&[], &State { pc: 30, ..State::fresh() }, 1);
+    cut.memory[30] = 0xf0;
+    let words = "step 1 stops with 11 (instruction fetch outside memory): pc 1e bits f000";
+    assert_eq!(step_lines(&cut), [words]);
+}
+
+/// An interrupt and a breakpoint take an instruction's place; a watchpoint comes after one.
+#[test]
+fn an_instruction_is_shown_only_if_it_was_done() {
+    let code: &[Line] = &[("ldr", &[1, 0, 2])];
+    let interrupt = State { psw: psw::IE | 1 << psw::ENABLE_SHIFT, ..State::fresh() };
+    let mut external = input(code, &interrupt, 1);
+    external.tape[0] = 1;
+    let lines = step_lines(&external);
+    assert_eq!(lines, ["step 1: Step { pc: 0, entry: Some(External), address: None }"]);
+    let breakpoint = State { hwdbg: hwdbg::AVAILABLE | hwdbg::BP0, ..State::fresh() };
+    let lines = step_lines(&input(code, &breakpoint, 1));
+    assert_eq!(lines, ["step 1: Step { pc: 0, entry: Some(Debug), address: None }"]);
+    let watchpoint = State { hwdbg: hwdbg::AVAILABLE | hwdbg::WP0, ..State::fresh() };
+    let lines = step_lines(&input(code, &watchpoint, 1));
+    let start = "step 1: Step { pc: 0, entry: Some(Debug), address: Some(0) } Load {";
+    assert!(lines[0].starts_with(start), "{lines:?}");
+}
+
+#[test]
+fn a_long_run_shows_its_first_and_its_last_steps() {
+    let lines = step_lines(&input(&[("sj", &[0])], &State::fresh(), 1_000));
+    assert_eq!(lines.len(), 201);
+    assert!(lines[99].starts_with("step 100: "));
+    assert_eq!(lines[100], "steps 101 to 900 are left out");
+    assert!(lines[101].starts_with("step 901: ") && lines[200].starts_with("step 1000: "));
+}
+
+#[test]
+fn a_refused_run_shows_no_step() {
+    assert_eq!(step_lines(&input(&[], &State { pc: 1, ..State::fresh() }, 1)), [""; 0]);
+}
+
+#[test]
+fn the_scrambled_run_is_shown() {
+    let mut state = State::fresh();
+    state.registers[1].marked = true;
+    let one = input(&[("sj", &[0])], &state, 1);
+    state.registers[1].value = 0x5ca3b1ed;
+    let other = input(&[("sj", &[0])], &state, 1);
+    let text = report::case(&one, &other);
+    let (first, scrambled) = text.split_once("\nScrambled run\n").expect("both runs");
+    assert!(first.contains("r1 0* ") && !first.contains("5ca3b1ed"));
+    assert_eq!(scrambled.matches("r1 5ca3b1ed* ").count(), 3, "{scrambled}");
+    assert!(
+        report::case(&one, &one).ends_with("Scrambled run\nthe same: no content was changed\n\n")
+    );
 }

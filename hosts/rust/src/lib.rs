@@ -18,6 +18,7 @@ compile_error!("the static library is x86-64 code for Linux: build with `tools/h
 
 mod call;
 mod reply;
+mod shown;
 mod state;
 
 pub use call::run_record;

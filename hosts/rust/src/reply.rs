@@ -62,12 +62,43 @@ impl Reply {
     }
 }
 
+/// Document 01's fact, in its words.
+impl fmt::Display for Reply {
+    fn fmt(&self, formatter: &mut fmt::Formatter) -> fmt::Result {
+        formatter.write_str(match self {
+            Reply::MemoryLength => "memory length is 0, above 65,536, or no multiple of 4",
+            Reply::MarkLength => "mark slice of another length",
+            Reply::MarkByte => "a mark byte above 1",
+            Reply::StateForm => {
+                "state out of form: odd program counter; PSW bit 12 set; HWDBG bits 0, 1 not both \
+                 set or a bit of 9 to 31 set; timer pending with TIMER not 0"
+            }
+            Reply::TapeLength => "tape shorter than the budget",
+            Reply::TapeByte => "a byte above 63 among the first \"budget\" tape bytes",
+            Reply::BudgetUsed => "budget used up",
+            Reply::FetchOutside => "instruction fetch outside memory",
+            Reply::FetchMarked => "instruction fetch from a marked byte",
+            Reply::NoInstruction => "bits that are no instruction",
+            Reply::OperandMarked => "a marked operand where none may be",
+            Reply::DataOutside => "load or store outside memory",
+        })
+    }
+}
+
 /// The answer to a run.
 #[derive(Clone, Copy, Debug, PartialEq, Eq, Hash)]
 pub struct Outcome {
     pub reply: Reply,
     /// The number of completed steps.
     pub steps: u64,
+}
+
+/// The reply by number and in words, and the steps.
+impl fmt::Display for Outcome {
+    fn fmt(&self, formatter: &mut fmt::Formatter) -> fmt::Result {
+        let Outcome { reply, steps } = self;
+        write!(formatter, "reply {}, steps {steps}: {reply}", reply.number())
+    }
 }
 
 /// Why there is no answer of document 01.

@@ -17,15 +17,21 @@ mod place {
     pub const ZEROS: usize = 132;
 }
 
+/// The bits of PSW that carry marks.
+pub(crate) mod psw {
+    pub const TF: u32 = 1 << 8;
+    pub const CY: u32 = 1 << 9;
+}
+
 /// A register of 32 bits with its mark.
-#[derive(Clone, Copy, Debug, Default, PartialEq, Eq, Hash)]
+#[derive(Clone, Copy, Default, PartialEq, Eq, Hash)]
 pub struct Register {
     pub value: u32,
     pub marked: bool,
 }
 
 /// The state of document 01, "What the model has".
-#[derive(Clone, Debug, PartialEq, Eq, Hash)]
+#[derive(Clone, PartialEq, Eq, Hash)]
 pub struct State {
     pub registers: [Register; 16],
     /// The program counter.
@@ -122,8 +128,12 @@ impl State {
         })
     }
 
+    /// The names of SFR 1 to 10.
+    pub(crate) const SPECIAL: [&'static str; 10] =
+        ["ra", "ipc", "timer", "ibase", "usreg", "hwdbg", "bp0", "bp1", "wp0", "wp1"];
+
     /// SFR 1 to 10.
-    const fn special(&self) -> [u32; 10] {
+    pub(crate) const fn special(&self) -> [u32; 10] {
         [
             self.ra, self.ipc, self.timer, self.ibase, self.usreg, self.hwdbg, self.bp0, self.bp1,
             self.wp0, self.wp1,

@@ -3,8 +3,8 @@
 use super::{Case, REPLIES};
 use crate::isa::{decode, mnemonics};
 use crate::run::Outcome;
-use crate::state::State;
-use crate::step::{step, Entry, Step};
+use crate::state::{hwdbg, State};
+use crate::step::{step, Entry};
 
 /// Counts with their names, in a fixed order.
 pub struct Coverage {
@@ -62,7 +62,7 @@ impl Coverage {
         for &lines in &tape[..outcome.steps as usize] {
             let first_byte = memory.get(state.pc as usize).copied();
             let step = step(&mut state, memory, marks, lines).expect("it was completed");
-            let entry = entry_name(step);
+            let entry = step.entry.map(entry_name);
             if let Some(entry) = entry.and_then(|name| ENTRIES.iter().position(|&e| e == name)) {
                 self.count(first_entry + entry);
             }
@@ -94,13 +94,13 @@ impl Default for Coverage {
     }
 }
 
-/// The kind of a step's entry: a debug entry with a data address comes from a watchpoint.
-fn entry_name(step: Step) -> Option<&'static str> {
-    Some(match (step.entry?, step.address) {
-        (Entry::Swint, _) => "swint",
-        (Entry::Debug, None) => "breakpoint",
-        (Entry::Debug, Some(_)) => "watchpoint",
-        (Entry::Timer, _) => "timer",
-        (Entry::External, _) => "external",
-    })
+/// The kind of an entry.
+const fn entry_name(entry: Entry) -> &'static str {
+    match entry {
+        Entry::Swint(_) => "swint",
+        Entry::Debug(hwdbg::BP_HIT) => "breakpoint",
+        Entry::Debug(_) => "watchpoint",
+        Entry::Timer => "timer",
+        Entry::External(_) => "external",
+    }
 }

@@ -1,7 +1,7 @@
 //! Pseudo-random inputs of a run: code that goes on for a while, marked data, lines, a timer, and
 //! break- and watchpoints that hit.
 
-use second::isa::{encode, mnemonics, Halves, Instr};
+use second::isa::{data_address, decode, encode, mnemonics, Halves, Instr};
 use second::state::{Register, State};
 use second::word::sign_extend;
 
@@ -41,7 +41,7 @@ impl Generator {
         let length = self.pick(&[4, 8, 64, 128, 256, 256, 512, 1024, 4096]);
         let memory = self.memory(length);
         let marks = self.marks(length);
-        let state = self.state(length);
+        let state = self.state(length, &memory);
         let steps = self.pick(&[0, 1, 2, 8, 32, 64, 128]);
         let quiet = self.once_in(2);
         let tape =
@@ -105,7 +105,7 @@ impl Generator {
     }
 
     /// A state in form.
-    fn state(&mut self, length: u32) -> State {
+    fn state(&mut self, length: u32, memory: &[u8]) -> State {
         let mut state = State::fresh();
         let often = self.pick(&[2, 4, 8, u32::MAX]);
         state.registers = std::array::from_fn(|_| Register {
@@ -123,14 +123,26 @@ impl Generator {
         state.hwdbg = 3 | self.below(8) << 6;
         state.hwdbg |= if self.once_in(2) { self.below(16) << 2 } else { 0 };
         (state.bp0, state.bp1) = (self.value(length), self.value(length));
-        (state.wp0, state.wp1) = (self.watched(&state), self.watched(&state));
+        (state.wp0, state.wp1) = (self.watched(&state, memory), self.watched(&state, memory));
         state
     }
 
-    /// An address that a load or store of a word through some register may have.
-    fn watched(&mut self, state: &State) -> u32 {
-        let base = self.pick(&state.registers).value;
-        base.wrapping_add(4 * self.below(4)) & !3
+    /// The address of one of the next three loads and stores, as long as its base stays; so both
+    /// watchpoints are often equal.
+    fn watched(&mut self, state: &State, memory: &[u8]) -> u32 {
+        let halves = memory[state.pc as usize..].chunks_exact(2);
+        let addresses =
+            halves.filter_map(|half| match decode(u16::from_be_bytes([half[0], half[1]]), 0)? {
+                Instr::Load { width, uimm4, rb, .. } | Instr::Store { width, uimm4, rb, .. } => {
+                    Some(data_address(state.registers[rb as usize].value, uimm4, width))
+                }
+                _ => None,
+            });
+        let next: Vec<u32> = addresses.take(3).collect();
+        if next.is_empty() {
+            return self.word();
+        }
+        self.pick(&next)
     }
 
     /// Often with interrupts permitted; bit 12 is clear.

@@ -2,7 +2,7 @@
 
 use std::collections::HashSet;
 
-use second::isa::{decode, mnemonics};
+use second::isa::{decode, mnemonics, Instr};
 use second::reply::Reply;
 use second::run::{run, run_observed, Outcome};
 use second::step::{Entry, Step};
@@ -45,6 +45,20 @@ fn unmarked(mut rig: Rig) -> Rig {
     rig
 }
 
+/// The instruction at the program counter, of which the first half alone decides over mnemonic
+/// and size.
+fn instruction(rig: &Rig) -> Option<Instr> {
+    let first = rig.memory.get(rig.state.pc as usize..)?.first_chunk().copied()?;
+    decode(u16::from_be_bytes(first), 0)
+}
+
+/// Every entry with all that it can show. The bits of a hit are BP, WP0, WP1 and both of these.
+fn every_entry() -> impl Iterator<Item = Entry> {
+    let hits = [0b001, 0b010, 0b100, 0b110].map(|hits| Entry::Debug(hits << 6));
+    let lines = (0..6).map(Entry::External);
+    (0..16).map(Entry::Swint).chain(hits).chain([Entry::Timer]).chain(lines)
+}
+
 /// The cases are no good if they don't come everywhere.
 #[test]
 fn the_cases_reach_every_stop_every_entry_and_every_mnemonic() {
@@ -53,10 +67,7 @@ fn the_cases_reach_every_stop_every_entry_and_every_mnemonic() {
     for_each_case(1, |case, _| {
         let mut machine = rig(&case);
         for &lines in &case.tape {
-            // The first half alone decides over the mnemonic.
-            let first =
-                machine.memory.get(machine.state.pc as usize..).and_then(<[u8]>::first_chunk);
-            let first = first.copied().map(u16::from_be_bytes);
+            let instr = instruction(&machine);
             let (outcome, after, shown) = observe(machine, &[lines]);
             machine = after;
             replies.insert(outcome.reply);
@@ -65,17 +76,66 @@ fn the_cases_reach_every_stop_every_entry_and_every_mnemonic() {
             entries.insert(step.entry);
             watched += u32::from(step.entry.is_some() && step.address.is_some());
             if step.entry.is_none() {
-                let instr = first.and_then(|first| decode(first, 0)).expect("it was done");
-                done.insert(instr.mnemonic());
+                done.insert(instr.expect("it was done").mnemonic());
             }
         }
     });
     assert_eq!(replies.len(), 6, "{replies:?}");
-    let kinds = [Entry::Swint, Entry::Debug, Entry::Timer, Entry::External];
-    assert!(kinds.iter().all(|&kind| entries.contains(&Some(kind))), "{entries:?}");
+    assert_eq!(entries, every_entry().map(Some).chain([None]).collect());
     assert_eq!(done.len(), mnemonics().len() - 1, "all but swint, which is an entry");
-    assert!(watched > 100, "{watched} watchpoints hit");
-    assert!(steps > 8 * CASES, "only {steps} steps");
+    assert!(watched > 500, "{watched} watchpoints hit");
+    assert!(steps > 7 * CASES, "only {steps} steps");
+}
+
+/// The data address of a load or store, "aligned down to the access size after the sum"; the base
+/// of ldrpc is its own address.
+fn data_address(rig: &Rig) -> Option<u32> {
+    let (base, units, size) = match instruction(rig)? {
+        Instr::Load { width, uimm4, rb, .. } | Instr::Store { width, uimm4, rb, .. } => {
+            (rig.value(rb as usize), uimm4, width.bytes())
+        }
+        Instr::Ldrpc { uimm8, .. } => (rig.state.pc, uimm8, 4),
+        _ => return None,
+    };
+    Some(base.wrapping_add(units * size) / size * size)
+}
+
+/// The entry that the state after it shows by PSW or HWDBG, and its vector.
+fn shown_after(entry: Entry, rig: &Rig) -> (Entry, u32) {
+    let (psw, hwdbg) = (rig.state.psw, rig.state.hwdbg);
+    match entry {
+        Entry::Swint(_) => (Entry::Swint(psw >> 16 & 0xf), 4),
+        Entry::Debug(_) => (Entry::Debug(hwdbg & 0b1_1100_0000), 4),
+        Entry::Timer => (Entry::Timer, 8),
+        Entry::External(_) => {
+            let line = (0..6).find(|line| psw >> 26 == 1 << line);
+            (Entry::External(line.expect("one line is shown")), 12)
+        }
+    }
+}
+
+/// A step shows the program counter and the data address that the state before it has, and of its
+/// entry what the state after it shows.
+#[test]
+fn each_step_shows_what_the_states_around_it_show() {
+    for_each_case(10, |case, _| {
+        let mut machine = rig(&case);
+        for &lines in &case.tape {
+            let before = machine.clone();
+            let (_, after, shown) = observe(machine, &[lines]);
+            machine = after;
+            let [Step { pc, entry, address }] = shown[..] else { break };
+            assert_eq!(pc, before.state.pc);
+            if let Some(entry) = entry {
+                let vector = machine.state.pc & 0xff;
+                assert_eq!((entry, vector), shown_after(entry, &machine));
+            }
+            // These take the place of an instruction.
+            let instead = matches!(entry, Some(Entry::Timer | Entry::External(_)))
+                || entry == Some(Entry::Debug(1 << 6));
+            assert_eq!(address, if instead { None } else { data_address(&before) });
+        }
+    });
 }
 
 #[test]

@@ -312,12 +312,12 @@ fn an_odd_program_counter_is_found_only_by_an_instruction() {
     rig.state.pc = 3;
     rig.state.psw = 1 << 5 | 1 << 20;
     let entered = step(&mut rig.state, &mut rig.memory, &mut rig.marks, 1).expect("line 0");
-    assert_eq!((entered.entry, rig.state.ipc), (Some(Entry::External), 3));
+    assert_eq!((entered.entry, rig.state.ipc), (Some(Entry::External(0)), 3));
     let mut rig = Rig::with(&[]);
     rig.state.pc = 3;
     (rig.state.hwdbg, rig.state.bp0) = (7, 3);
     let entered = step(&mut rig.state, &mut rig.memory, &mut rig.marks, 0).expect("BP0");
-    assert_eq!((entered.entry, rig.state.ipc), (Some(Entry::Debug), 3));
+    assert_eq!((entered.entry, rig.state.ipc), (Some(Entry::Debug(1 << 6)), 3));
 }
 
 #[test]

@@ -57,7 +57,7 @@ loop-again c =
     let inside : args .at + i + 1 ≤ length (at .r) = omega arith in (
       omega arith,
       rw (c .before .before .store .ensures, le-leb _ _ inside) (store-length 1 (at .r) (args .at + i) _ ∙ n),
-      rw (c .before .before .store .ensures, le-leb _ _ inside, c .before .before .before .number .ensures, ← (List·getD-map num l i false))
+      rw (c .before .before .store .ensures, le-leb _ _ inside, c .before .before .before .number .ensures .0, ← (List·getD-map num l i false))
           (put-more 1 (at .r) (map num l) i (args .at + i) (args .at + (i + 1)) (omega arith) (omega arith) ∙ at .inv .2),
     )
 

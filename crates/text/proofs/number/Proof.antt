@@ -1,7 +1,7 @@
 use Rattle.text.proofs.Laws.{number-on, number-stop, number-none, digit-more, digit-fits}
 use Rattle.text.proofs.Laws.{number-on, number-stop, number-none, digit-more}
 use borrow.Author.Needs.{needs}
-use Rattle.text.specs.Digits.{numberOf}
+use Rattle.text.specs.Digits.{digitsRead}
 use lib.Pow.{pow-mono}
 use lib.ListN.{length, drop}
 use mathlib.Core.Path.{_≡_, refl, sym, _∙_}
@@ -11,7 +11,7 @@ use Rattle.text.proofs.number.Statement.{statement}
 use Rattle.text.proofs.number.Tie as tie
 
 abbrev Inv-loop : tie.InvT-loop
-Inv-loop base l v₀ i₀ v i = (i ≤ length l) × (v < 2 ^ (4 * i)) × (numberOf base v (drop i l) ≡ numberOf base 0 l)
+Inv-loop base l v₀ i₀ v i = (i ≤ length l) × (v < 2 ^ (4 * i)) × (digitsRead base v (drop i l) ≡ digitsRead base 0 l)
 
 abbrev μ-loop : tie.MeasureT-loop
 μ-loop base l v₀ i₀ v i = length l - i

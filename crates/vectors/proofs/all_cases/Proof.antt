@@ -1,13 +1,13 @@
-use Prim.Native.Nat.{_-_, _≤_}
 use borrow.Author.Needs.{needs}
+use Prim.Native.Nat.{_-_, _≤_}
 use Rattle.vectors.proofs.all_cases.Statement.{statement}
 use Rattle.vectors.proofs.all_cases.Tie as tie
 
 abbrev Inv-loop : tie.InvT-loop
-Inv-loop record₀ sizes₀ memory₀ marks₀ tape₀ n₀ «record» sizes memory marks tape n = n ≤ 100000
+Inv-loop record₀ sizes₀ memory₀ marks₀ tape₀ second₀ tags₀ n₀ «record» sizes memory marks tape second tags n = n ≤ 100000
 
 abbrev μ-loop : tie.MeasureT-loop
-μ-loop record₀ sizes₀ memory₀ marks₀ tape₀ n₀ «record» sizes memory marks tape n = 100000 - n
+μ-loop record₀ sizes₀ memory₀ marks₀ tape₀ second₀ tags₀ n₀ «record» sizes memory marks tape second tags n = 100000 - n
 
 loop-holds : tie.Need-loop-holds Inv-loop μ-loop
 loop-holds c = search needs

@@ -1,0 +1,38 @@
+use Rattle.cpu.specs.Exec.{pswWritten}
+use borrow.Author.Needs.{needs}
+use Rattle.cpu.proofs.system.keep_psw.Statement.{statement}
+use Rattle.cpu.proofs.system.keep_psw.Tie as tie
+
+field-requires : tie.Need-field-requires
+field-requires c κs = search needs
+
+with-field-requires : tie.Need-with-field-requires
+with-field-requires c κs = search needs
+
+field-requires-2 : tie.Need-field-requires-2
+field-requires-2 c κs = search needs
+
+with-field-requires-2 : tie.Need-with-field-requires-2
+with-field-requires-2 c κs = search needs
+
+field-requires-3 : tie.Need-field-requires-3
+field-requires-3 c κs = search needs
+
+with-field-requires-3 : tie.Need-with-field-requires-3
+with-field-requires-3 c κs = search needs
+
+returns : tie.Need-returns
+unfolding pswWritten
+returns c = rw (c .with-field3 .ensures, c .before .field3 .ensures, c .before .before .with-field2 .ensures, c .before .before .before .field2 .ensures, c .before .before .before .before .with-field .ensures, c .before .before .before .before .before .field .ensures)
+
+pub keep-psw-spec : {M : Type 1} → statement M
+keep-psw-spec =
+    tie.close
+    (tie.spec
+    field-requires
+    with-field-requires
+    field-requires-2
+    with-field-requires-2
+    field-requires-3
+    with-field-requires-3
+    returns)

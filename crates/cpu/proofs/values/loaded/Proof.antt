@@ -1,0 +1,14 @@
+use Rattle.cpu.specs.Exec.{exec}
+use borrow.Author.Needs.{needs}
+use Rattle.cpu.proofs.values.loaded.Statement.{statement}
+use Rattle.cpu.proofs.values.loaded.Tie as tie
+
+set-reg-requires : tie.Need-set-reg-requires
+set-reg-requires c κs = search needs
+
+returns : tie.Need-returns
+unfolding exec
+returns c = rw (c .set-reg .ensures)
+
+pub loaded-spec : {M : Type 1} → statement M
+loaded-spec = tie.close (tie.spec set-reg-requires returns)

@@ -1,0 +1,122 @@
+// Entries, breakpoints, watchpoints and the timer.
+ghost use mathlib.Core.Path.{_≡_};
+ghost use mathlib.Core.Bool.{_&&_};
+ghost use lib.Dec.{eqb};
+ghost use Rattle.cpu.specs.Entries.{vector, enter, entered, isBreak, watchHit, watchEntry, fallen};
+ghost use Rattle.cpu.specs.declared.Entry.{Entry};
+use crate::Control;
+use crate::Entry;
+use crate::places::with_hwdbg;
+use crate::places::with_ipc;
+use crate::places::with_pc;
+use crate::places::with_pending;
+use crate::places::with_psw;
+use crate::places::with_timer;
+use word::ByteAddr;
+
+fn vector_at(low: u32, c: Control) -> ByteAddr
+    ensures { λ r. ⌜ r ≡ vector low c ⌝ }
+{
+    ByteAddr(word::with_field(c.ibase, 0, 8, low))
+}
+
+fn enter_at(low: u32, c: Control) -> Control
+    ensures { λ r. ⌜ r ≡ enter low c ⌝ }
+{
+    let p = word::with_bit(c.psw, 6, word::is_on(c.psw, 3));
+    let on = with_psw(c, word::with_bit(p, 3, true));
+    with_pc(with_ipc(on, c.pc), vector_at(low, c))
+}
+
+fn enter_swint(n: u32, c: Control) -> Control
+    ensures { λ r. ⌜ r ≡ entered (Entry.Swint n) c ⌝ }
+{
+    let p = word::with_field(c.psw, 16, 4, n);
+    enter_at(4, with_psw(c, word::with_bit(p, 0, true)))
+}
+
+fn enter_debug(hit: u32, c: Control) -> Control
+    ensures { λ r. ⌜ r ≡ entered (Entry.Debug hit) c ⌝ }
+{
+    let p = word::with_field(c.psw, 16, 4, 15);
+    let clear = with_psw(c, word::with_bit(p, 0, false));
+    enter_at(4, with_hwdbg(clear, word::with_field(c.hwdbg, 6, 3, hit)))
+}
+
+fn enter_timer(c: Control) -> Control
+    ensures { λ r. ⌜ r ≡ entered Entry.Timer c ⌝ }
+{
+    let t = with_psw(c, word::with_bit(c.psw, 2, true));
+    enter_at(8, with_pending(t, false))
+}
+
+fn enter_external(i: u32, c: Control) -> Control
+    ensures { λ r. ⌜ r ≡ entered (Entry.External i) c ⌝ }
+{
+    let p = word::with_field(c.psw, 26, 6, word::lsl(1, i));
+    enter_at(12, with_psw(c, word::with_bit(p, 1, true)))
+}
+
+pub fn enter(e: Entry, c: Control) -> Control
+    ensures { λ r. ⌜ r ≡ entered e c ⌝ }
+{
+    match e {
+        Entry::Nothing => c,
+        Entry::Swint(n) => enter_swint(n, c),
+        Entry::Debug(hit) => enter_debug(hit, c),
+        Entry::Timer => enter_timer(c),
+        Entry::External(i) => enter_external(i, c),
+    }
+}
+
+fn is_hit(enabled: bool, a: u32, b: u32) -> bool
+    ensures { λ r. ⌜ r ≡ (enabled && eqb a b) ⌝ }
+{
+    word::both(enabled, a == b)
+}
+
+pub fn has_break(c: Control) -> bool
+    ensures { λ r. ⌜ r ≡ isBreak c ⌝ }
+{
+    let zero = is_hit(word::is_on(c.hwdbg, 2), c.bp0, c.pc);
+    let one = is_hit(word::is_on(c.hwdbg, 3), c.bp1, c.pc);
+    word::either(zero, one)
+}
+
+fn watch_hit(a: ByteAddr, c: Control) -> u32
+    ensures { λ r. ⌜ r ≡ watchHit a c ⌝ }
+{
+    let zero = is_hit(word::is_on(c.hwdbg, 4), c.wp0, a.0);
+    let one = is_hit(word::is_on(c.hwdbg, 5), c.wp1, a.0);
+    word::number(zero) * 2 + word::number(one) * 4
+}
+
+// Mostly no watchpoint is enabled, and then none is compared.
+pub fn watch(a: ByteAddr, c: Control) -> Entry
+    ensures { λ r. ⌜ r ≡ watchEntry a c ⌝ }
+{
+    if word::field(c.hwdbg, 4, 2) == 0 {
+        return Entry::Nothing;
+    }
+    let hit = watch_hit(a, c);
+    if 0 < hit {
+        Entry::Debug(hit)
+    } else {
+        Entry::Nothing
+    }
+}
+
+// A match on TIMER costs the compiler fewer instructions than a comparison.
+pub fn fall(te: bool, c: Control) -> Control
+    ensures { λ r. ⌜ r ≡ fallen te c ⌝ }
+{
+    let t = c.timer;
+    if te {
+        match t {
+            0 => c,
+            _ => with_timer(c, t - 1, word::either(c.pending, t == 1)),
+        }
+    } else {
+        c
+    }
+}

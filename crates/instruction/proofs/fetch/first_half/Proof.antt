@@ -1,0 +1,19 @@
+use borrow.Author.Tests.{eq-eqb, ne-eqb}
+use Rattle.instruction.specs.Parts.{firstHalf}
+use borrow.Author.Needs.{needs}
+use Rattle.instruction.proofs.fetch.first_half.Statement.{statement}
+use Rattle.instruction.proofs.fetch.first_half.Tie as tie
+
+returns : tie.Need-returns
+unfolding firstHalf
+returns c = rw (eq-eqb _ _ (c .if1 .taken))
+
+read-half-requires : tie.Need-read-half-requires
+read-half-requires c κs = search needs
+
+returns-2 : tie.Need-returns-2
+unfolding firstHalf
+returns-2 c = rw (c .read-half .ensures, ne-eqb _ _ (c .before .if1 .left))
+
+pub first-half-spec : {M : Type 1} → statement M
+first-half-spec = tie.close (tie.spec returns read-half-requires returns-2)

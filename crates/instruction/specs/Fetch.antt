@@ -1,0 +1,40 @@
+-- The fetch of an instruction (document 01: "first half outside, first half marked, not an instruction, second half outside, second half marked";
+-- "A program counter found odd inside a run answers 13, before all these").
+-- Assumes nothing.
+use Prim.Native.Nat.{ℕ, _%_}
+use mathlib.Core.Bool.{cond, not}
+use mathlib.Core.List.{List}
+use lib.Dec.{eqb}
+use Rattle.word.specs.Addresses.{byteSum}
+use Rattle.word.specs.Bytes.{bytesOf, inside, loadOf}
+use Rattle.word.specs.declared.ByteAddr.{ByteAddr}
+use Rattle.word.specs.declared.Width.{Width}
+use Rattle.isa.specs.Decode.{decodeOf}
+use Rattle.isa.specs.declared.Decoded.{Decoded}
+use Rattle.marks.specs.Memory.{markedAt}
+use Rattle.instruction.specs.declared.Reply.{Reply}
+use Rattle.instruction.specs.declared.Fetched.{Fetched}
+
+-- the half at a, and the address of the half after it
+unfoldable pub halfAt : List ℕ → ByteAddr → ℕ
+halfAt m a = loadOf Width.Half m a
+
+abbrev pub afterHalf : ByteAddr → ByteAddr
+afterHalf a = byteSum a 2
+
+-- a half at a is read: "outside", "marked", or what comes of it
+abbrev pub guarded : ByteAddr → List ℕ → List ℕ → Fetched → Fetched
+guarded a m k x =
+    cond (not (inside m a (bytesOf Width.Half))) (Fetched.Stop Reply.FetchOutside)
+    (cond (markedAt Width.Half k a) (Fetched.Stop Reply.FetchMarked) x)
+
+-- what the halves decode to; b is where the second one is, which only an instruction of four bytes has
+abbrev pub found : Decoded → ByteAddr → List ℕ → List ℕ → Fetched
+found (Decoded.Short i) b m k = Fetched.Run i
+found (Decoded.Long i) b m k = guarded b m k (Fetched.Run i)
+found Decoded.Nothing b m k = Fetched.Stop Reply.NoInstruction
+
+unfoldable pub fetchOf : ByteAddr → List ℕ → List ℕ → Fetched
+fetchOf a m k =
+    cond (eqb (a .0 % 2) 1) (Fetched.Stop Reply.NoInstruction)
+    (guarded a m k (found (decodeOf (halfAt m a) (halfAt m (afterHalf a))) (afterHalf a) m k))

@@ -1,0 +1,5 @@
+pub mod Reply
+pub mod Fetch
+pub mod Act
+pub mod Parts
+pub mod Statements

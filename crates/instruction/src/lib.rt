@@ -1,0 +1,71 @@
+// One instruction with marks: its fetch, with the order of its stops, and what it does or why it stops.
+pub mod classes;
+pub mod fetch;
+
+ghost use mathlib.Core.Path.{_≡_};
+ghost use Rattle.instruction.specs.Reply.{numberOf};
+use cpu::Effect;
+use isa::Instr;
+use marks::Taint;
+use word::ByteAddr;
+use word::Width;
+
+pub enum Reply {
+    MemoryLength,
+    MarkLength,
+    MarkByte,
+    Form,
+    TapeLength,
+    TapeByte,
+    Budget,
+    FetchOutside,
+    FetchMarked,
+    NoInstruction,
+    MarkedOperand,
+    DataOutside,
+}
+
+pub enum Fetched {
+    Stop(Reply),
+    Run(Instr),
+}
+
+// Half an instruction, or why it cannot be read.
+pub enum Half {
+    Stop(Reply),
+    Bits(u16),
+}
+
+// What an instruction reaches beside the registers: memory, or the entry of a swint.
+pub enum Reach {
+    Nowhere,
+    Reads(Width, ByteAddr),
+    Writes(Width, ByteAddr),
+    Raises(u32),
+}
+
+// One instruction: it stops, or has an effect, marks, and a place that it reaches.
+pub enum Act {
+    Stop(Reply),
+    Does(Effect, Taint, Reach),
+}
+
+// Document 01's numbers.
+pub fn number(r: Reply) -> u32
+    ensures { λ n. ⌜ n ≡ numberOf r ⌝ }
+{
+    match r {
+        Reply::MemoryLength => 1,
+        Reply::MarkLength => 2,
+        Reply::MarkByte => 3,
+        Reply::Form => 4,
+        Reply::TapeLength => 5,
+        Reply::TapeByte => 6,
+        Reply::Budget => 10,
+        Reply::FetchOutside => 11,
+        Reply::FetchMarked => 12,
+        Reply::NoInstruction => 13,
+        Reply::MarkedOperand => 14,
+        Reply::DataOutside => 15,
+    }
+}

@@ -1,0 +1,5 @@
+pub mod Every
+pub mod Keeps
+pub mod Cut
+pub mod Trace
+pub mod Theorems

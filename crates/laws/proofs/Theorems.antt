@@ -1,0 +1,110 @@
+-- Theorems on the machine's definitions, each with its statement; read this file alone with specs/. The proofs are in the files that it cites.
+-- Assumes nothing.
+use Prim.Native.Nat.{ℕ, suc, _+_, _%_, _<_}
+use mathlib.Core.Path.{_≡_, refl, sym, subst, _∙_}
+use mathlib.Core.Bool.{Bool, true, false, not, _&&_, _||_}
+use mathlib.Core.List.{List}
+use native.Mathlib.Omega.{arith}
+use lib.Dec.{ltb, eqb}
+use lib.ListN.{length, getD}
+use borrow.Author.Tests.{eqb-true, eqb-false, ltb-false, not-false}
+use Rattle.word.specs.Bits.{on, fieldOf}
+use Rattle.cpu.specs.Entries.{entered}
+use Rattle.cpu.specs.declared.Control.{Control}
+use Rattle.cpu.specs.declared.Entry.{Entry}
+use Rattle.instruction.specs.declared.Reply.{Reply}
+use Rattle.machine.specs.State.{outOfForm}
+use Rattle.machine.specs.Step.{Stepped, stopped, completed, stepOf}
+use Rattle.machine.specs.Run.{final, goOn, stepsOf, judge, runOf}
+use Rattle.machine.specs.Trace.{traceOf, shownOf}
+use Rattle.trace.specs.Seen.{seenIn}
+use Rattle.machine.specs.declared.State.{State}
+use Rattle.machine.specs.declared.Judged.{Judged}
+use Rattle.machine.specs.declared.Ended.{Ended}
+use Rattle.machine.specs.declared.Done.{Done}
+use Rattle.machine.specs.declared.Line.{Line}
+use Rattle.trace.specs.declared.Seen.{Seen}
+use Rattle.laws.specs.Form.{Form}
+use Rattle.laws.specs.Cut.{resume}
+use Rattle.laws.specs.Shows.{Shows, Bits, ChangedAt}
+use Rattle.laws.proofs.Keeps.{run-keeps}
+use Rattle.laws.proofs.Cut.{cut}
+use Rattle.laws.proofs.Trace.{Told, told, entry-bits, run-counted, nth-line}
+
+-- 1. A refusal changes nothing and counts 0 steps.
+pub refusal-changes-nothing : (b : ℕ) (t : List ℕ) (s : State) (m k : List ℕ) (r : Reply)
+    → judge b t s m k ≡ Judged.Refused r → runOf b t s m k ≡ final r 0 s m k
+unfolding runOf
+refusal-changes-nothing b t s m k r e = rw e
+
+-- 2. A step that stops changes nothing: after n steps the run ends with the state, memory and marks before it.
+pub stop-changes-nothing : (b n : ℕ) (t : List ℕ) (s : State) (m k : List ℕ) (r : Reply) → stepOf (getD t n 0) s m k ≡ stopped r
+    → stepsOf (suc b) n t s m k ≡ final r n s m k
+unfolding stepsOf goOn
+stop-changes-nothing b n t s m k r e = rw e
+
+-- 3. Every returned state is in form if the given one was; so the program counter never becomes odd.
+or-off : (a b : Bool) → (a || b) ≡ false → (a ≡ false) × (b ≡ false)
+or-off true b e = let z : _≡_ {A = ℕ} 0 1 = cc in absurd (omega arith)
+or-off false b e = (refl, e)
+
+and-on : (a b : Bool) → a ≡ true → (a && b) ≡ false → b ≡ false
+and-on true b p e = e
+and-on false b p e = let z : _≡_ {A = ℕ} 0 1 = cc in absurd (omega arith)
+
+in-form : (c : Control) → outOfForm c ≡ false → Form c
+unfolding outOfForm
+in-form c e =
+    let odd : Bool = eqb (c .pc % 2) 1 in
+    let bad : Bool = not (eqb (fieldOf (c .hwdbg) 0 2) 3) in
+    let big : Bool = ltb 511 (c .hwdbg) in
+    let a = or-off (odd || on (c .psw) 12 || bad || big) (c .pending && ltb 0 (c .timer)) e in
+    let b = or-off (odd || on (c .psw) 12 || bad) big (a .0) in
+    let d = or-off (odd || on (c .psw) 12) bad (b .0) in
+    let g = or-off odd (on (c .psw) 12) (d .0) in
+    let q = eqb-false (c .pc % 2) 1 (g .0) in
+    record {
+      even = omega (arith, q);
+      twelve = g .1;
+      fixed = eqb-true _ _ (not-false _ (d .1));
+      high = let l = ltb-false 511 (c .hwdbg) (b .1) in omega arith;
+      late = λ p. let l = ltb-false 0 (c .timer) (and-on (c .pending) (ltb 0 (c .timer)) p (a .1)) in omega arith;
+    }
+
+pub run-stays-in-form : (b : ℕ) (t : List ℕ) (s : State) (m k : List ℕ) → outOfForm (s .control) ≡ false
+    → Form (runOf b t s m k .ended .state .control)
+run-stays-in-form b t s m k e = run-keeps b t s m k (in-form (s .control) e)
+
+-- 4. What run ensures determines its result: two answers, memories and marks that satisfy it coincide.
+module _ (b : ℕ) (t : List ℕ) (s : State) (m k : List ℕ) where
+  -- the three equations of run's contract
+  abbrev Ensured : Ended → List ℕ → List ℕ → Type 0
+  Ensured e l j = (e ≡ runOf b t s m k .ended) × (l ≡ runOf b t s m k .mem) × (j ≡ runOf b t s m k .marks)
+
+  pub run-determined : (e f : Ended) (l n j i : List ℕ) → Ensured e l j → Ensured f n i → (e ≡ f) × (l ≡ n) × (j ≡ i)
+  run-determined e f l n j i p q = (p .0 ∙ sym (q .0), p .1 ∙ sym (q .1), p .2 ∙ sym (q .2))
+
+-- 5. A run of a + b steps is a run of a steps, and then of b from what that left; a run that stopped stays as it is.
+pub a-cut-run : (a b : ℕ) (t : List ℕ) (s : State) (m k : List ℕ) → stepsOf (a + b) 0 t s m k ≡ resume b t (stepsOf a 0 t s m k)
+a-cut-run a b t s m k = cut a b 0 t s m k
+
+-- 6. The trace has as many lines as the run has completed steps ..
+pub a-line-for-each-step : (b : ℕ) (t : List ℕ) (s : State) (m k : List ℕ) → length (shownOf b t s m k) ≡ runOf b t s m k .ended .steps
+a-line-for-each-step = run-counted
+
+-- .. and line i is the one that the step from what i steps left gives; z is any line.
+pub lines-of-the-steps : (b i : ℕ) (t : List ℕ) (s : State) (m k : List ℕ) (z : Line) → i < length (traceOf b 0 t s m k)
+    → seenIn (stepOf (getD t i 0) (stepsOf i 0 t s m k .ended .state) (stepsOf i 0 t s m k .mem) (stepsOf i 0 t s m k .marks))
+    ≡ Seen.Step (getD (traceOf b 0 t s m k) i z)
+lines-of-the-steps b i t s m k z h =
+    let e : 0 + i ≡ i = omega arith in
+    rw e at (nth-line b i 0 t s m k z h)
+
+-- 7. The line of a completed step shows the program counter before it, the entry that was made, and the address where memory may have changed.
+pub a-line-is-true : (t : ℕ) (s : State) (m k : List ℕ) (d : Done) (l j : List ℕ) (x : Line) → stepOf t s m k ≡ completed d l j x
+    → Shows (s .control) d x × ChangedAt (x .address) m l
+a-line-is-true t s m k d l j x e = subst (λ (y : Stepped). Told (s .control) m y) e (told t s m k)
+
+-- 8. An entry has its vector and its bits.
+pub an-entry-by-its-bits : (e : Entry) (c : Control) → Bits e c (entered e c)
+an-entry-by-its-bits = entry-bits

@@ -1,0 +1,201 @@
+-- The trace is what the steps gave.
+-- Assumes nothing.
+use Prim.Native.Nat.{ℕ, zero, suc, _+_, _≤_, _<_}
+use mathlib.Core.Path.{_≡_, refl, ap, _∙_}
+use mathlib.Core.Bool.{Bool, true, false, cond, not, _&&_}
+use mathlib.Core.List.{List}
+use native.Mathlib.Omega.{arith}
+use native.Mathlib.Nat.{not-suc-le-zero}
+use lib.Dec.{eqb, lit≤}
+use lib.ListN.{length, getD}
+use Rattle.word.specs.Bits.{num, on, fieldOf, put, withField}
+use Rattle.word.specs.Bytes.{bytesOf, inside, store}
+use Rattle.word.specs.Numbers.{lslOf}
+use Rattle.word.specs.declared.Width.{Width}
+use Rattle.word.proofs.Fields.{kept-above, kept-below, read-back}
+use Rattle.word.proofs.Memory.{store-kept}
+use Rattle.isa.specs.declared.Instr.{Instr}
+use Rattle.cpu.specs.Control.{pcOf, withPc, withSfr, withPsw, withHwdbg, withPending, tf}
+use Rattle.cpu.specs.Entries.{enter, entered}
+use Rattle.cpu.specs.Exec.{exec, sourcesOf}
+use Rattle.cpu.specs.declared.Control.{Control}
+use Rattle.cpu.specs.declared.Effect.{Effect}
+use Rattle.cpu.specs.declared.Entry.{Entry}
+use Rattle.marks.specs.Marks.{taint, blocked}
+use Rattle.marks.specs.declared.Flags.{Flags}
+use Rattle.marks.specs.declared.Taint.{Taint}
+use Rattle.instruction.specs.Fetch.{fetchOf}
+use Rattle.instruction.specs.Act.{Val, reachOf, outside, loadedFrom, loadedMark, actOf}
+use Rattle.instruction.specs.declared.Reply.{Reply}
+use Rattle.instruction.specs.declared.Fetched.{Fetched}
+use Rattle.instruction.specs.declared.Reach.{Reach}
+use Rattle.instruction.specs.declared.Act.{Act}
+use Rattle.machine.specs.State.{valueAt}
+use Rattle.machine.specs.Step.{Stepped, stopped, completed, chosen, storedTo, dataOf, entryDone, doneOf, lineOf, actStep, instrStep, fetchStep, eventStep, stepOf, after}
+use Rattle.machine.specs.Run.{Final, goOn, stepsOf, judge, judged, runOf}
+use Rattle.machine.specs.Trace.{traceOn, traceOf, shown, shownOf}
+use Rattle.trace.specs.Seen.{seenIn}
+use Rattle.machine.specs.declared.State.{State}
+use Rattle.machine.specs.declared.Event.{Event}
+use Rattle.machine.specs.declared.Judged.{Judged}
+use Rattle.machine.specs.declared.Line.{Line}
+use Rattle.trace.specs.declared.Seen.{Seen}
+use Rattle.laws.specs.Shows.{Shows, Entered, Bits, ChangedAt}
+
+-- ---- one step and its line
+
+-- what the line of a completed step says: its program counter, its entry, and where memory changed
+abbrev pub Told : Control → List ℕ → Stepped → Type 0
+Told c m (stopped r) = Unit {0}
+Told c m (completed d l j x) = Shows c d x × ChangedAt (x .address) m l
+
+stored-at : (r : Reach) (v : ℕ) (m : List ℕ) → ChangedAt (dataOf r) m (storedTo r v m)
+stored-at Reach.Nowhere v m = refl
+stored-at (Reach.Reads w a) v m = λ i h. refl
+stored-at (Reach.Writes w a) v m = λ i h. go (inside m a (bytesOf w)) i h
+  where
+    small : (w : Width) → bytesOf w ≤ 4
+    small Width.Byte = lit≤ tt
+    small Width.Half = lit≤ tt
+    small Width.Word = lit≤ tt
+
+    go : (t : Bool) (i : ℕ) → (a .0 ≤ i → i < a .0 + 4 → ⊥) → getD (cond t (store (bytesOf w) m (a .0) v) m) i 0 ≡ getD m i 0
+    go true i h =
+        let s = small w in
+        store-kept (bytesOf w) m (a .0) v i (λ (n : ℕ) (l : n < bytesOf w) (e : i ≡ a .0 + n). h (omega arith) (omega arith))
+    go false i h = refl
+stored-at (Reach.Raises n) v m = refl
+
+acted : (t u : Bool) (p q : Reply) (e : Effect) (n : Taint) (r : Reach) (x : Val) (c : Control) (m k : List ℕ)
+    → Told c m (actStep (cond t (Act.Stop p) (cond u (Act.Stop q) (Act.Does e n r))) x c m k)
+unfolding doneOf lineOf
+acted true u p q e n r x c m k = tt
+acted false true p q e n r x c m k = tt
+acted false false p q e n r x c m k =
+    (record { at = refl; found = e .control; falls = on (c .psw) 4 && not (e .wrote); made = refl }, stored-at r (x .value) m)
+
+acts : (i : Instr) (x y : Val) (f : Flags) (c : Control) (m k : List ℕ) → Told c m (actStep (actOf i x y f c m k) x c m k)
+unfolding actOf
+acts i x y f c m k =
+    let r : Reach = reachOf i (y .value) c in
+    acted (blocked i (y .mark) f) (outside r m) Reply.MarkedOperand Reply.DataOutside (exec i (x .value) (y .value) (loadedFrom r m) c)
+    (taint i (x .mark) (y .mark) (loadedMark r k) (tf c) f) r x c m k
+
+fetched : (x : Fetched) (s : State) (m k : List ℕ) → Told (s .control) m (fetchStep x s m k)
+unfolding instrStep
+fetched (Fetched.Stop r) s m k = tt
+fetched (Fetched.Run i) s m k = acts i (valueAt s (sourcesOf i .first)) (valueAt s (sourcesOf i .second)) (s .flags) (s .control) m k
+
+happened : (v : Event) (s : State) (m k : List ℕ) → Told (s .control) m (eventStep v s m k)
+unfolding entryDone
+happened (Event.Enter e) s m k = (record { at = refl; found = s .control; falls = on (s .control .psw) 4; made = refl }, refl)
+happened Event.Instruction s m k = fetched (fetchOf (pcOf (s .control)) m k) s m k
+
+pub told : (t : ℕ) (s : State) (m k : List ℕ) → Told (s .control) m (stepOf t s m k)
+unfolding stepOf
+told t s m k = happened (chosen t (s .control)) s m k
+
+-- ---- an entry by its vector and its bits
+
+on-of : (n : ℕ) {p q : ℕ} → p ≡ q → eqb p n ≡ eqb q n
+on-of n e = ap (λ (x : ℕ). eqb x n) e
+
+-- IP is written last, and BIP before it; a field below both or above both stays
+module _ (p : ℕ) (b : Bool) where
+  abbrev saved : ℕ
+  saved = put (put p 6 1 (num b)) 3 1 1
+
+  ip-set : on saved 3 ≡ true
+  ip-set = on-of 1 (read-back (put p 6 1 (num b)) 3 1 1)
+
+  low-kept : (i w : ℕ) → i + w ≤ 3 → fieldOf saved i w ≡ fieldOf p i w
+  low-kept i w h = kept-below (put p 6 1 (num b)) 3 1 1 i w h ∙ kept-below p 6 1 (num b) i w (omega arith)
+
+  high-kept : (i w : ℕ) → 7 ≤ i → fieldOf saved i w ≡ fieldOf p i w
+  high-kept i w h = kept-above (put p 6 1 (num b)) 3 1 1 i w (omega arith) ∙ kept-above p 6 1 (num b) i w h
+
+enters : (low : ℕ) (c a : Control) → c .pc ≡ a .pc → c .ibase ≡ a .ibase → Entered low a (enter low c)
+unfolding enter withPc withSfr
+enters low c a e f = record { vector = rw f; ipc = e; ip = ip-set (c .psw) (on (c .psw) 3) }
+
+pub entry-bits : (e : Entry) (c : Control) → Bits e c (entered e c)
+unfolding entered enter withPc withSfr withPending
+entry-bits Entry.Nothing c = refl
+entry-bits (Entry.Swint v) c =
+    let p : ℕ = put (put (c .psw) 16 4 v) 0 1 1 in (
+      enters 4 (withPsw c p) c refl refl,
+      on-of 1 (low-kept p (on p 3) 0 1 (lit≤ tt) ∙ read-back (put (c .psw) 16 4 v) 0 1 1),
+      high-kept p (on p 3) 16 4 (lit≤ tt) ∙ kept-above (put (c .psw) 16 4 v) 0 1 1 16 4 (lit≤ tt) ∙ read-back (c .psw) 16 4 v,
+    )
+entry-bits (Entry.Debug hit) c =
+    let p : ℕ = put (put (c .psw) 16 4 15) 0 1 0 in (
+      enters 4 (withHwdbg (withPsw c p) (withField (c .hwdbg) 6 3 hit)) c refl refl,
+      on-of 1 (low-kept p (on p 3) 0 1 (lit≤ tt) ∙ read-back (put (c .psw) 16 4 15) 0 1 0),
+      high-kept p (on p 3) 16 4 (lit≤ tt) ∙ kept-above (put (c .psw) 16 4 15) 0 1 0 16 4 (lit≤ tt) ∙ read-back (c .psw) 16 4 15,
+      read-back (c .hwdbg) 6 3 hit,
+    )
+entry-bits Entry.Timer c =
+    let p : ℕ = put (c .psw) 2 1 1 in (
+      enters 8 (withPending (withPsw c p) false) c refl refl,
+      on-of 1 (low-kept p (on p 3) 2 1 (lit≤ tt) ∙ read-back (c .psw) 2 1 1),
+      refl,
+    )
+entry-bits (Entry.External i) c =
+    let p : ℕ = put (put (c .psw) 26 6 (lslOf 1 i)) 1 1 1 in (
+      enters 12 (withPsw c p) c refl refl,
+      on-of 1 (low-kept p (on p 3) 1 1 (lit≤ tt) ∙ read-back (put (c .psw) 26 6 (lslOf 1 i)) 1 1 1),
+      high-kept p (on p 3) 26 6 (lit≤ tt) ∙ kept-above (put (c .psw) 26 6 (lslOf 1 i)) 1 1 1 26 6 (lit≤ tt) ∙ read-back (c .psw) 26 6 (lslOf 1 i),
+    )
+
+-- ---- the lines of a run
+
+-- what the steps counted, by the step that comes first
+counts-on : (rest : State → List ℕ → List ℕ → Final) (lines : State → List ℕ → List ℕ → List Line) (n : ℕ) (s : State) (m k : List ℕ) (x : Stepped)
+    → ((u : State) (l j : List ℕ) → rest u l j .ended .steps ≡ n + 1 + length (lines u l j))
+    → goOn rest n s m k x .ended .steps ≡ n + length (traceOn lines s x)
+unfolding goOn traceOn
+counts-on rest lines n s m k (stopped r) h = omega arith
+counts-on rest lines n s m k (completed d l j y) h = h (after d s) l j ∙ omega arith
+
+counted : (b n : ℕ) (t : List ℕ) (s : State) (m k : List ℕ) → stepsOf b n t s m k .ended .steps ≡ n + length (traceOf b n t s m k)
+unfolding stepsOf traceOf
+counted zero n t s m k = omega arith
+counted (suc b) n t s m k =
+    counts-on (stepsOf b (n + 1) t) (traceOf b (n + 1) t) n s m k (stepOf (getD t n 0) s m k) (λ u l j. counted b (n + 1) t u l j)
+
+pub run-counted : (b : ℕ) (t : List ℕ) (s : State) (m k : List ℕ) → length (shownOf b t s m k) ≡ runOf b t s m k .ended .steps
+unfolding runOf shownOf
+run-counted b t s m k = go (judge b t s m k)
+  where
+    go : (j : Judged) → length (shown j b t s m k) ≡ judged j b t s m k .ended .steps
+    go (Judged.Refused r) = refl
+    go Judged.Good = omega (arith, counted b 0 t s m k)
+
+-- line i is the one that the step from what i steps left shows; z is any line
+module _ (lines : State → List ℕ → List ℕ → List Line) (s : State) (z : Line) where
+  first-line : (x : Stepped) → 0 < length (traceOn lines s x) → seenIn x ≡ Seen.Step (getD (traceOn lines s x) 0 z)
+  unfolding traceOn
+  first-line (stopped r) h = absurd (not-suc-le-zero h)
+  first-line (completed d l j y) h = refl
+
+  later-line : (rest : State → List ℕ → List ℕ → Final) (tape i n : ℕ) (m k : List ℕ) (x : Stepped) → suc i < length (traceOn lines s x)
+      → ((u : State) (l j : List ℕ) → i < length (lines u l j)
+      → seenIn (stepOf tape (rest u l j .ended .state) (rest u l j .mem) (rest u l j .marks)) ≡ Seen.Step (getD (lines u l j) i z))
+      → seenIn (stepOf tape (goOn rest n s m k x .ended .state) (goOn rest n s m k x .mem) (goOn rest n s m k x .marks))
+      ≡ Seen.Step (getD (traceOn lines s x) (suc i) z)
+  unfolding traceOn goOn
+  later-line rest tape i n m k (stopped r) h f = absurd (not-suc-le-zero h)
+  later-line rest tape i n m k (completed d l j y) h f = f (after d s) l j (omega arith)
+
+pub nth-line : (b i n : ℕ) (t : List ℕ) (s : State) (m k : List ℕ) (z : Line) → i < length (traceOf b n t s m k)
+    → seenIn (stepOf (getD t (n + i) 0) (stepsOf i n t s m k .ended .state) (stepsOf i n t s m k .mem) (stepsOf i n t s m k .marks))
+    ≡ Seen.Step (getD (traceOf b n t s m k) i z)
+unfolding stepsOf traceOf
+nth-line zero i n t s m k z h = absurd (not-suc-le-zero h)
+nth-line (suc b) zero n t s m k z h =
+    let e : n + 0 ≡ n = omega arith in
+    rw e (first-line (traceOf b (n + 1) t) s z (stepOf (getD t n 0) s m k) h)
+nth-line (suc b) (suc i) n t s m k z h =
+    let e : n + suc i ≡ n + 1 + i = omega arith in
+    rw e (later-line (traceOf b (n + 1) t) s z (stepsOf i (n + 1) t) (getD t (n + 1 + i) 0) i n m k (stepOf (getD t n 0) s m k) h
+    (λ u l j g. nth-line b i (n + 1) t u l j z g))

@@ -1,0 +1,256 @@
+use borrow.Author.Needs.{needs}
+use native.Mathlib.Omega.{arith}
+use Prim.Native.Nat.{_-_, _≤_}
+use mathlib.Core.Path.{_≡_, refl, sym, ap, _∙_}
+use borrow.Author.Tests.{not-false}
+use lib.ListN.{length, length-set}
+use lib.Seq.{set-out}
+use Rattle.instruction.specs.Parts.{flags}
+use Rattle.machine.specs.Parts.{stateOf}
+use Rattle.machine.specs.Run.{Final, stepsOf}
+use Rattle.machine.proofs.Laws.{steps-all, mark-stays, steps-end, begins-stop, begins-entry, half-stops, half-goes}
+use Rattle.machine.proofs.run.steps.Statement.{statement}
+use Rattle.machine.proofs.run.steps.Tie as tie
+
+abbrev Inv-loop : tie.InvT-loop
+Inv-loop b t m₀ k₀ regs₀ marks₀ tf₀ cy₀ control₀ n₀ m k regs marks tf cy control n =
+    (n ≤ b) × (length m ≡ length m₀) × (length k ≡ length k₀) × (stepsOf (b - n) n t (stateOf regs marks (flags tf cy) control) m k ≡ stepsOf b 0 t (stateOf regs₀ marks₀ (flags tf₀ cy₀) control₀) m₀ k₀) × (length regs ≡ 16) × (length marks ≡ 16)
+
+abbrev μ-loop : tie.MeasureT-loop
+μ-loop b t m₀ k₀ regs₀ marks₀ tf₀ cy₀ control₀ n₀ m k regs marks tf cy control n = b - n
+
+loop-holds : tie.Need-loop-holds Inv-loop μ-loop
+loop-holds c = (omega arith, refl, refl, steps-all _ _ _ _ _, search needs, search needs)
+
+shared-slice-read-wide : tie.Need-shared-slice-read-wide Inv-loop μ-loop
+shared-slice-read-wide c = search needs
+
+wide-requires : tie.Need-wide-requires Inv-loop μ-loop
+wide-requires c κs = search needs
+
+begin-requires : tie.Need-begin-requires Inv-loop μ-loop
+begin-requires c κs = search needs
+
+enum-known-g : tie.Need-enum-known-g Inv-loop μ-loop
+enum-known-g c = search needs
+
+end-at-requires : tie.Need-end-at-requires Inv-loop μ-loop
+end-at-requires c κs = search needs
+
+same-length : tie.Need-same-length Inv-loop μ-loop
+same-length c = search needs
+
+same-length-2 : tie.Need-same-length-2 Inv-loop μ-loop
+same-length-2 c = search needs
+
+returns : tie.Need-returns Inv-loop μ-loop
+returns c =
+    let o = rw (c .before .before .before .before .before .before .before .wide .ensures) at (c .before .before .before .before .begin .ensures) in
+    let e = sym (begins-stop _ _ _ _ _ _ _ _ _ (c .before .before .before .before .before .before .before .before .before .loop-test .taken) _ o _ (c .before .before .g .given .1)) ∙ c .before .before .before .before .before .before .before .before .before .before .loop .inv .3 in
+    (c .end-at .ensures ∙ ap (λ (f : Final). f .ended) e, (ap (λ (f : Final). f .mem) e, ap (λ (f : Final). f .marks) e))
+
+enum-known-g-2 : tie.Need-enum-known-g-2 Inv-loop μ-loop
+enum-known-g-2 c = search needs
+
+add-n : tie.Need-add-n Inv-loop μ-loop
+add-n c = omega (arith, c .before .before .before .before .before .before .before .before .loop-test .taken, c .before .before .before .before .before .before .before .before .before .before .before .before .before .before .before .before .fits .b)
+
+loop-less : tie.Need-loop-less Inv-loop μ-loop
+loop-less c = omega (arith, c .before .before .before .before .before .before .before .before .loop-test .taken)
+
+loop-again : tie.Need-loop-again Inv-loop μ-loop
+loop-again c =
+    let o = rw (c .before .before .before .before .before .before .wide .ensures) at (c .before .before .before .begin .ensures) in
+    let i = c .before .before .before .before .before .before .before .before .before .loop .inv in (
+      omega (arith, c .before .before .before .before .before .before .before .before .loop-test .taken),
+      i .1,
+      i .2,
+      sym (begins-entry _ _ _ _ _ _ _ _ _ (c .before .before .before .before .before .before .before .before .loop-test .taken) _ o _ (c .before .g2 .given .1) (i .4) (i .5)) ∙ i .3,
+      i .4,
+      i .5,
+    )
+
+enum-known-g-3 : tie.Need-enum-known-g-3 Inv-loop μ-loop
+enum-known-g-3 c = search needs
+
+cast-i : tie.Need-cast-i Inv-loop μ-loop
+cast-i c = search needs
+
+cast-j : tie.Need-cast-j Inv-loop μ-loop
+cast-j c = search needs
+
+mul-half-step : tie.Need-mul-half-step Inv-loop μ-loop
+mul-half-step c = search needs
+
+array-read-half-step : tie.Need-array-read-half-step Inv-loop μ-loop
+array-read-half-step c = search needs
+
+array-read-half-step-2 : tie.Need-array-read-half-step-2 Inv-loop μ-loop
+array-read-half-step-2 c = search needs
+
+mul-half-step-2 : tie.Need-mul-half-step-2 Inv-loop μ-loop
+mul-half-step-2 c = search needs
+
+array-read-half-step-3 : tie.Need-array-read-half-step-3 Inv-loop μ-loop
+array-read-half-step-3 c = search needs
+
+array-read-half-step-4 : tie.Need-array-read-half-step-4 Inv-loop μ-loop
+array-read-half-step-4 c = search needs
+
+half-step-requires : tie.Need-half-step-requires Inv-loop μ-loop
+half-step-requires c κs = search needs
+
+enum-known-out : tie.Need-enum-known-out Inv-loop μ-loop
+enum-known-out c = search needs
+
+end-at-requires-2 : tie.Need-end-at-requires-2 Inv-loop μ-loop
+end-at-requires-2 c κs = search needs
+
+same-length-3 : tie.Need-same-length-3 Inv-loop μ-loop
+same-length-3 c = let e = c .before .before .before .before .before .before .before .before .half-step .kept .1 .1 .1 .1 .1 .1 .1 .1 .0 ∙ c .before .before .before .before .before .before .before .before .before .before .before .before .before .before .before .before .before .before .before .before .loop .inv .1 in search needs
+
+same-length-4 : tie.Need-same-length-4 Inv-loop μ-loop
+same-length-4 c = let e = c .before .before .before .before .before .before .before .before .half-step .kept .1 .1 .1 .1 .1 .1 .1 .1 .1 .0 ∙ c .before .before .before .before .before .before .before .before .before .before .before .before .before .before .before .before .before .before .before .before .loop .inv .2 in search needs
+
+returns-2 : tie.Need-returns-2 Inv-loop μ-loop
+returns-2 c =
+    let o = rw (c .before .before .before .before .before .before .before .before .before .before .before .before .before .before .before .before .before .wide .ensures) at (c .before .before .before .before .before .before .before .before .before .before .before .before .before .before .begin .ensures) in
+    let h = c .before .before .before .before .before .before .before .before .half-step .ensures in
+    let z = half-stops _ _ _ _ _ _ _ _ _ (c .before .before .before .before .before .before .before .before .before .before .before .before .before .before .before .before .before .before .before .loop-test .taken) _ o _ (c .before .before .before .before .before .before .before .before .before .before .before .before .g3 .given .1) _ (sym (c .before .before .out .given .1) ∙ h .0) in
+    let e = sym (z .0) ∙ c .before .before .before .before .before .before .before .before .before .before .before .before .before .before .before .before .before .before .before .before .loop .inv .3 in
+    (c .end-at2 .ensures ∙ ap (λ (f : Final). f .ended) e, (h .1 .0 ∙ z .1 ∙ ap (λ (f : Final). f .mem) e, h .1 .1 ∙ z .2 ∙ ap (λ (f : Final). f .marks) e))
+
+enum-known-out-2 : tie.Need-enum-known-out-2 Inv-loop μ-loop
+enum-known-out-2 c = search needs
+
+add-n-2 : tie.Need-add-n-2 Inv-loop μ-loop
+add-n-2 c = omega (arith, c .before .before .before .before .before .before .before .before .before .before .before .before .before .before .before .before .before .before .before .loop-test .taken, c .before .before .before .before .before .before .before .before .before .before .before .before .before .before .before .before .before .before .before .before .before .before .before .before .before .before .before .fits .b)
+
+cast-z : tie.Need-cast-z Inv-loop μ-loop
+cast-z c = search needs
+
+put-value-requires : tie.Need-put-value-requires Inv-loop μ-loop
+put-value-requires c κs = search needs
+
+array-read-was : tie.Need-array-read-was Inv-loop μ-loop
+array-read-was c = search needs
+
+same-requires : tie.Need-same-requires Inv-loop μ-loop
+same-requires c κs = search needs
+
+put-mark-requires : tie.Need-put-mark-requires Inv-loop μ-loop
+put-mark-requires c κs = search needs
+
+loop-less-2 : tie.Need-loop-less-2 Inv-loop μ-loop
+loop-less-2 c = omega (arith, c .before .before .before .before .before .before .before .before .before .before .before .before .before .before .before .before .before .before .before .before .before .before .before .before .before .before .loop-test .taken)
+
+loop-again-2 : tie.Need-loop-again-2 Inv-loop μ-loop
+loop-again-2 c =
+    let o = rw (c .before .before .before .before .before .before .before .before .before .before .before .before .before .before .before .before .before .before .before .before .before .before .before .before .wide .ensures) at (c .before .before .before .before .before .before .before .before .before .before .before .before .before .before .before .before .before .before .before .before .before .begin .ensures) in
+    let i = c .before .before .before .before .before .before .before .before .before .before .before .before .before .before .before .before .before .before .before .before .before .before .before .before .before .before .before .loop .inv in
+    let h = c .before .before .before .before .before .before .before .before .before .before .before .before .before .before .before .half-step .ensures in (
+      omega (arith, c .before .before .before .before .before .before .before .before .before .before .before .before .before .before .before .before .before .before .before .before .before .before .before .before .before .before .loop-test .taken),
+      c .before .before .before .before .before .before .before .before .before .before .before .before .before .before .before .half-step .kept .1 .1 .1 .1 .1 .1 .1 .1 .0 ∙ i .1,
+      c .before .before .before .before .before .before .before .before .before .before .before .before .before .before .before .half-step .kept .1 .1 .1 .1 .1 .1 .1 .1 .1 .0 ∙ i .2,
+      sym (half-goes _ _ _ _ _ _ _ _ _ (c .before .before .before .before .before .before .before .before .before .before .before .before .before .before .before .before .before .before .before .before .before .before .before .before .before .before .loop-test .taken) _ o _ (c .before .before .before .before .before .before .before .before .before .before .before .before .before .before .before .before .before .before .before .g3 .given .1) _ (sym (c .before .before .before .before .before .before .before .before .before .out2 .given .1) ∙ h .0) _ _ _ _ (c .before .before .before .put-value .ensures) (c .put-mark .ensures) (h .1 .0) (h .1 .1)) ∙ i .3,
+      ap length (c .before .before .before .put-value .ensures) ∙ length-set (c .before .before .before .before .before .before .before .before .before .before .before .before .before .before .before .before .before .before .before .before .before .before .before .before .before .before .before .loop .regs) (c .before .before .before .before .before .before .before .before .before .out2 .given .0 .0 .reg) (c .before .before .before .before .before .before .before .before .before .out2 .given .0 .0 .value) ∙ i .4,
+      ap length (c .put-mark .ensures) ∙ length-set (c .before .before .before .before .before .before .before .before .before .before .before .before .before .before .before .before .before .before .before .before .before .before .before .before .before .before .before .loop .marks) (c .before .before .before .before .before .before .before .before .before .out2 .given .0 .0 .reg) (c .before .before .before .before .before .before .before .before .before .out2 .given .0 .0 .mark) ∙ i .5,
+    )
+
+loop-less-3 : tie.Need-loop-less-3 Inv-loop μ-loop
+loop-less-3 c = omega (arith, c .before .before .before .before .before .before .before .before .before .before .before .before .before .before .before .before .before .before .before .before .before .before .before .before .before .loop-test .taken)
+
+loop-again-3 : tie.Need-loop-again-3 Inv-loop μ-loop
+loop-again-3 c =
+    let o = rw (c .before .before .before .before .before .before .before .before .before .before .before .before .before .before .before .before .before .before .before .before .before .before .before .wide .ensures) at (c .before .before .before .before .before .before .before .before .before .before .before .before .before .before .before .before .before .before .before .before .begin .ensures) in
+    let i = c .before .before .before .before .before .before .before .before .before .before .before .before .before .before .before .before .before .before .before .before .before .before .before .before .before .before .loop .inv in
+    let h = c .before .before .before .before .before .before .before .before .before .before .before .before .before .before .half-step .ensures in (
+      omega (arith, c .before .before .before .before .before .before .before .before .before .before .before .before .before .before .before .before .before .before .before .before .before .before .before .before .before .loop-test .taken),
+      c .before .before .before .before .before .before .before .before .before .before .before .before .before .before .half-step .kept .1 .1 .1 .1 .1 .1 .1 .1 .0 ∙ i .1,
+      c .before .before .before .before .before .before .before .before .before .before .before .before .before .before .half-step .kept .1 .1 .1 .1 .1 .1 .1 .1 .1 .0 ∙ i .2,
+      sym (half-goes _ _ _ _ _ _ _ _ _ (c .before .before .before .before .before .before .before .before .before .before .before .before .before .before .before .before .before .before .before .before .before .before .before .before .before .loop-test .taken) _ o _ (c .before .before .before .before .before .before .before .before .before .before .before .before .before .before .before .before .before .before .g3 .given .1) _ (sym (c .before .before .before .before .before .before .before .before .out2 .given .1) ∙ h .0) _ _ _ _ (c .before .before .put-value .ensures) (sym (mark-stays _ _ _ (sym (c .before .same .ensures) ∙ not-false _ (c .if2 .left)))) (h .1 .0) (h .1 .1)) ∙ i .3,
+      ap length (c .before .before .put-value .ensures) ∙ length-set (c .before .before .before .before .before .before .before .before .before .before .before .before .before .before .before .before .before .before .before .before .before .before .before .before .before .before .loop .regs) (c .before .before .before .before .before .before .before .before .out2 .given .0 .0 .reg) (c .before .before .before .before .before .before .before .before .out2 .given .0 .0 .value) ∙ i .4,
+      i .5,
+    )
+
+loop-less-4 : tie.Need-loop-less-4 Inv-loop μ-loop
+loop-less-4 c = omega (arith, c .before .before .before .before .before .before .before .before .before .before .before .before .before .before .before .before .before .before .before .before .before .loop-test .taken)
+
+loop-again-4 : tie.Need-loop-again-4 Inv-loop μ-loop
+loop-again-4 c =
+    let o = rw (c .before .before .before .before .before .before .before .before .before .before .before .before .before .before .before .before .before .before .before .wide .ensures) at (c .before .before .before .before .before .before .before .before .before .before .before .before .before .before .before .before .begin .ensures) in
+    let i = c .before .before .before .before .before .before .before .before .before .before .before .before .before .before .before .before .before .before .before .before .before .before .loop .inv in
+    let h = c .before .before .before .before .before .before .before .before .before .before .half-step .ensures in (
+      omega (arith, c .before .before .before .before .before .before .before .before .before .before .before .before .before .before .before .before .before .before .before .before .before .loop-test .taken),
+      c .before .before .before .before .before .before .before .before .before .before .half-step .kept .1 .1 .1 .1 .1 .1 .1 .1 .0 ∙ i .1,
+      c .before .before .before .before .before .before .before .before .before .before .half-step .kept .1 .1 .1 .1 .1 .1 .1 .1 .1 .0 ∙ i .2,
+      sym (half-goes _ _ _ _ _ _ _ _ _ (c .before .before .before .before .before .before .before .before .before .before .before .before .before .before .before .before .before .before .before .before .before .loop-test .taken) _ o _ (c .before .before .before .before .before .before .before .before .before .before .before .before .before .before .g3 .given .1) _ (sym (c .before .before .before .before .out2 .given .1) ∙ h .0) _ _ _ _ (sym (set-out _ _ _ (omega (arith, c .if1 .left, i .4)))) (sym (set-out _ _ _ (omega (arith, c .if1 .left, i .5)))) (h .1 .0) (h .1 .1)) ∙ i .3,
+      i .4,
+      i .5,
+    )
+
+end-at-requires-3 : tie.Need-end-at-requires-3 Inv-loop μ-loop
+end-at-requires-3 c κs = search needs
+
+same-length-5 : tie.Need-same-length-5 Inv-loop μ-loop
+same-length-5 c = search needs
+
+same-length-6 : tie.Need-same-length-6 Inv-loop μ-loop
+same-length-6 c = search needs
+
+returns-3 : tie.Need-returns-3 Inv-loop μ-loop
+returns-3 c =
+    let e = sym (steps-end _ _ _ _ _ _ (c .before .loop-test .left)) ∙ c .before .before .loop .inv .3 in
+    (c .end-at3 .ensures ∙ ap (λ (f : Final). f .ended) e, (ap (λ (f : Final). f .mem) e, ap (λ (f : Final). f .marks) e))
+
+pub steps-spec : {M : Type 1} → statement M
+steps-spec =
+    tie.close
+    (tie.spec
+    Inv-loop
+    μ-loop
+    loop-holds
+    shared-slice-read-wide
+    wide-requires
+    begin-requires
+    enum-known-g
+    end-at-requires
+    same-length
+    same-length-2
+    returns
+    enum-known-g-2
+    add-n
+    loop-less
+    loop-again
+    enum-known-g-3
+    cast-i
+    cast-j
+    mul-half-step
+    array-read-half-step
+    array-read-half-step-2
+    mul-half-step-2
+    array-read-half-step-3
+    array-read-half-step-4
+    half-step-requires
+    enum-known-out
+    end-at-requires-2
+    same-length-3
+    same-length-4
+    returns-2
+    enum-known-out-2
+    add-n-2
+    cast-z
+    put-value-requires
+    array-read-was
+    same-requires
+    put-mark-requires
+    loop-less-2
+    loop-again-2
+    loop-less-3
+    loop-again-3
+    loop-less-4
+    loop-again-4
+    end-at-requires-3
+    same-length-5
+    same-length-6
+    returns-3)

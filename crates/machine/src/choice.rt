@@ -1,0 +1,90 @@
+// The choice of a step: a permitted interrupt by its priority, else a breakpoint, else one instruction.
+ghost use mathlib.Core.Path.{_≡_};
+ghost use mathlib.Core.Bool.{true, not, _&&_};
+ghost use Prim.Native.Nat.{ℕ, _+_, _<_};
+ghost use Rattle.word.specs.Bits.{on};
+ghost use Rattle.machine.specs.Step.{lowest, orBreak, lineOr, chosen};
+ghost use Rattle.machine.specs.declared.Event.{Event};
+use crate::Event;
+use cpu::Control;
+use cpu::Entry;
+
+fn is_taken(t: u32, p: u32, i: u32) -> bool
+    requires { ⌜ i < 6 ⌝ }
+    ensures { λ r. ⌜ r ≡ (on t i && on p (20 + i)) ⌝ }
+{
+    word::both(word::is_on(t, i), word::is_on(p, 20 + i))
+}
+
+fn lowest_line(t: u32, p: u32) -> u32
+    ensures { λ r. ⌜ r ≡ lowest 6 0 t p ⌝ }
+{
+    let mut i: u32 = 0;
+    while i < 6 {
+        if is_taken(t, p, i) {
+            return i;
+        }
+        i += 1;
+    }
+    i
+}
+
+fn break_or(c: Control) -> Event
+    ensures { λ r. ⌜ r ≡ orBreak c ⌝ }
+{
+    if cpu::has_break(c) {
+        Event::Enter(Entry::Debug(1))
+    } else {
+        Event::Instruction
+    }
+}
+
+fn line_or(i: u32, c: Control) -> Event
+    ensures { λ r. ⌜ r ≡ lineOr i c ⌝ }
+{
+    if i < 6 {
+        Event::Enter(Entry::External(i))
+    } else {
+        break_or(c)
+    }
+}
+
+// IE is 1 and IP is 0.
+fn is_open(p: u32) -> bool
+    ensures { λ r. ⌜ r ≡ (on p 5 && not (on p 3)) ⌝ }
+{
+    word::both(word::is_on(p, 5), !word::is_on(p, 3))
+}
+
+fn choose_any(t: u32, c: Control) -> Event
+    ensures { λ r. ⌜ r ≡ chosen t c ⌝ }
+{
+    if is_open(c.psw) {
+        if word::both(c.pending, word::is_on(c.psw, 4)) {
+            return Event::Enter(Entry::Timer);
+        }
+        return line_or(lowest_line(t, c.psw), c);
+    }
+    break_or(c)
+}
+
+// Nothing rare can happen: no line is high, no breakpoint is enabled, and no timer pends.
+fn is_calm(t: u32, c: Control) -> bool
+    ensures { λ r. ⌜ (r ≡ true → chosen t c ≡ Event.Instruction) ⌝ }
+{
+    if t == 0 {
+        word::both(word::field(c.hwdbg, 2, 2) == 0, !c.pending)
+    } else {
+        false
+    }
+}
+
+pub fn choose(t: u32, c: Control) -> Event
+    ensures { λ r. ⌜ r ≡ chosen t c ⌝ }
+{
+    if is_calm(t, c) {
+        Event::Instruction
+    } else {
+        choose_any(t, c)
+    }
+}

@@ -1,0 +1,131 @@
+// A run: refusals, or steps until the budget is used up or one stops.
+ghost use mathlib.Core.Path.{_≡_};
+ghost use Prim.Native.Nat.{ℕ, _≤_};
+ghost use lib.ListN.{length};
+ghost use Rattle.instruction.specs.Parts.{flags};
+ghost use Rattle.machine.specs.Run.{stepsOf, runOf};
+ghost use Rattle.machine.specs.Parts.{stateOf};
+use crate::Begun;
+use crate::Ended;
+use crate::Judged;
+use crate::Out;
+use crate::State;
+use crate::refusals::judge_all;
+use crate::registers::put_mark;
+use crate::registers::put_value;
+use crate::step::begin;
+use crate::step::half_step;
+use cpu::Control;
+use instruction::Reply;
+use marks::Flags;
+
+fn wide(x: u8) -> u32
+    ensures { λ r. ⌜ r ≡ x ⌝ }
+{
+    x as u32
+}
+
+fn end_at(
+    regs: [u32; 16],
+    marks: [bool; 16],
+    tf: bool,
+    cy: bool,
+    control: Control,
+    steps: usize,
+    reply: Reply,
+) -> Ended
+    ensures { λ r. ⌜ r ≡ record { state = stateOf regs marks (flags tf cy) control; steps = steps; reply = reply } ⌝ }
+{
+    let state = State {
+        regs,
+        marks,
+        flags: Flags { tf, cy },
+        control,
+    };
+    Ended {
+        state,
+        steps,
+        reply,
+    }
+}
+
+// The loop reads its own arrays: an array that is passed to be read at an index is copied. Most marks stay, and then their array is not written.
+fn steps(b: usize, t: &[u8], s: State, m: &mut [u8], k: &mut [u8]) -> Ended
+    requires { ⌜ b ≤ length (now t) ⌝ }
+    ensures { λ r. ⌜ r ≡ stepsOf b 0 (now (t .entry)) s (now (m .entry)) (now (k .entry)) .ended ⌝ }
+    ensures { λ _. ⌜ now (m .exit) ≡ stepsOf b 0 (now (t .entry)) s (now (m .entry)) (now (k .entry)) .mem ⌝ }
+    ensures { λ _. ⌜ now (k .exit) ≡ stepsOf b 0 (now (t .entry)) s (now (m .entry)) (now (k .entry)) .marks ⌝ }
+{
+    let mut regs = s.regs;
+    let mut marks = s.marks;
+    let mut tf = s.flags.tf;
+    let mut cy = s.flags.cy;
+    let mut control = s.control;
+    let mut n: usize = 0;
+    while n < b {
+        let g = begin(wide(t[n]), control, m, k);
+        match g {
+            Begun::Stop(reply) => {
+                return end_at(regs, marks, tf, cy, control, n, reply);
+            }
+            Begun::Enter(e) => {
+                control = e;
+                n += 1;
+            }
+            Begun::Half(h) => {
+                let i = (h / 16 % 16) as usize;
+                let j = (h % 16) as usize;
+                let out = half_step(
+                    h,
+                    regs[i],
+                    marks[i],
+                    regs[j],
+                    marks[j],
+                    tf,
+                    cy,
+                    control,
+                    m,
+                    k,
+                );
+                match out {
+                    Out::Stop(reply) => {
+                        return end_at(regs, marks, tf, cy, control, n, reply);
+                    }
+                    Out::Go(d) => {
+                        let c = d.control;
+                        tf = d.flags.tf;
+                        cy = d.flags.cy;
+                        control = c;
+                        n += 1;
+                        if d.reg < 16 {
+                            let z = d.reg as usize;
+                            regs = put_value(regs, d.reg, d.value);
+                            let was = marks[z];
+                            if !word::same(was, d.mark) {
+                                marks = put_mark(marks, d.reg, d.mark);
+                            }
+                        }
+                    }
+                }
+            }
+        }
+    }
+    end_at(regs, marks, tf, cy, control, n, Reply::Budget)
+}
+
+// A run over any memory, marks, state, tape and budget.
+pub fn run(b: usize, t: &[u8], s: State, m: &mut [u8], k: &mut [u8]) -> Ended
+    ensures { λ r. ⌜ r ≡ runOf b (now (t .entry)) s (now (m .entry)) (now (k .entry)) .ended ⌝ }
+    ensures { λ _. ⌜ now (m .exit) ≡ runOf b (now (t .entry)) s (now (m .entry)) (now (k .entry)) .mem ⌝ }
+    ensures { λ _. ⌜ now (k .exit) ≡ runOf b (now (t .entry)) s (now (m .entry)) (now (k .entry)) .marks ⌝ }
+{
+    let j = judge_all(b, t, s, m, k);
+    match j {
+        Judged::Refused(reply) => Ended {
+            state: s,
+            steps: 0,
+            reply,
+        },
+        Judged::Good => steps(b, t, s, m, k),
+    }
+}

@@ -1,0 +1,5 @@
+pub mod Runs
+pub mod Same
+pub mod Rules
+pub mod Leaks
+pub mod Theorems

@@ -1,0 +1,3 @@
+pub mod Models
+pub mod Statements
+pub mod Rules

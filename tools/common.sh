@@ -1,0 +1,68 @@
+# shellcheck shell=bash
+# What the shell tools of tools/ and bench/ share. A tool sources it by its own path with links resolved, so that a symlink to
+# the tool finds it too:
+#
+#     . "$(dirname "$(readlink -f "$0")")/common.sh"
+#
+# It sets `root`, the repository's folder, and `tool`, the tool's name in messages. The tool sets `usage`.
+
+# With CDPATH set, cd may go elsewhere, and writes where it went.
+unset CDPATH
+# What fails in a command substitution ends the tool too.
+shopt -s inherit_errexit
+
+root=$(dirname "$(dirname "$(readlink -f "${BASH_SOURCE[0]}")")")
+tool=$(readlink -f "$0")
+tool=${tool#"$root/"}
+
+# fail MESSAGE: ends the tool, which cannot do what it was asked for.
+fail() {
+    echo "$tool: $1" >&2
+    exit 1
+}
+
+# Ends a tool that was called wrongly.
+wrong_call() {
+    echo "${usage:?}" >&2
+    exit 2
+}
+
+# answer_help "$@": the usage is an answer where it was asked for.
+answer_help() {
+    case "${1-}" in
+        -h | --help)
+            echo "${usage:?}"
+            exit 0
+            ;;
+    esac
+}
+
+# The folder of the Rattle kit.
+kit() {
+    command -v rt > /dev/null || fail "the Rattle kit's command, rt, is not on PATH: add the kit's folder bin to it"
+    echo "${RATTLE_HOME:-$(dirname "$(dirname "$(readlink -f "$(command -v rt)")")")}"
+}
+
+# A digest of all that rt makes a file from: the kit, the list of the crates, and each of their files by name and content.
+sources() {
+    (
+        cd "$root" || exit
+        rt version
+        find crates.txt crates -type f -print0 | LC_ALL=C sort -z | xargs -0 sha256sum
+    ) | sha256sum
+}
+
+# make_proved FILE WORDS: has FILE made by `rt WORDS` unless it stands as these sources gave it. FILE.made keeps their digest,
+# and FILE's own, since rt may have been called by hand with other sources in between.
+make_proved() {
+    local file=$1 sources
+    kit > /dev/null
+    sources=$(sources)
+    if [ -e "$file" ] && [ "$sources $(sha256sum < "$file")" = "$(cat "$file.made" 2> /dev/null)" ]; then
+        return
+    fi
+    echo "$tool: making ${file#"$root/"} anew: rt ${*:2} proves the crates that it needs" >&2
+    rm -f "$file.made"
+    (cd "$root" && rt "${@:2}" < /dev/null >&2) || fail "rt ${*:2} failed"
+    echo "$sources $(sha256sum < "$file")" > "$file.made"
+}
