@@ -132,9 +132,9 @@ fn step_lines(input: &Input) -> Vec<String> {
 /// watchpoint, which has an address, come with theirs.
 fn took_its_place(step: &Step) -> bool {
     match step.entry {
-        Some(Entry::Timer | Entry::External) => true,
-        Some(Entry::Debug) => step.address.is_none(),
-        Some(Entry::Swint) | None => false,
+        Some(Entry::Timer | Entry::External(_)) => true,
+        Some(Entry::Debug(_)) => step.address.is_none(),
+        Some(Entry::Swint(_)) | None => false,
     }
 }
 

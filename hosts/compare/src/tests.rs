@@ -190,13 +190,13 @@ fn an_instruction_is_shown_only_if_it_was_done() {
     let mut external = input(code, &interrupt, 1);
     external.tape[0] = 1;
     let lines = step_lines(&external);
-    assert_eq!(lines, ["step 1: Step { pc: 0, entry: Some(External), address: None }"]);
+    assert_eq!(lines, ["step 1: Step { pc: 0, entry: Some(External(0)), address: None }"]);
     let breakpoint = State { hwdbg: hwdbg::AVAILABLE | hwdbg::BP0, ..State::fresh() };
     let lines = step_lines(&input(code, &breakpoint, 1));
-    assert_eq!(lines, ["step 1: Step { pc: 0, entry: Some(Debug), address: None }"]);
+    assert_eq!(lines, ["step 1: Step { pc: 0, entry: Some(Debug(40)), address: None }"]);
     let watchpoint = State { hwdbg: hwdbg::AVAILABLE | hwdbg::WP0, ..State::fresh() };
     let lines = step_lines(&input(code, &watchpoint, 1));
-    let start = "step 1: Step { pc: 0, entry: Some(Debug), address: Some(0) } Load {";
+    let start = "step 1: Step { pc: 0, entry: Some(Debug(80)), address: Some(0) } Load {";
     assert!(lines[0].starts_with(start), "{lines:?}");
 }
 
