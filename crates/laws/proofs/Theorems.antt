@@ -9,12 +9,13 @@ use lib.Dec.{ltb, eqb}
 use lib.ListN.{length, getD}
 use borrow.Author.Tests.{eqb-true, eqb-false, ltb-false, not-false}
 use Rattle.word.specs.Bits.{on, fieldOf}
+use Rattle.cpu.specs.Control.{pcOf}
 use Rattle.cpu.specs.Entries.{entered}
 use Rattle.cpu.specs.declared.Control.{Control}
 use Rattle.cpu.specs.declared.Entry.{Entry}
 use Rattle.instruction.specs.declared.Reply.{Reply}
 use Rattle.machine.specs.State.{outOfForm}
-use Rattle.machine.specs.Step.{Stepped, stopped, completed, stepOf}
+use Rattle.machine.specs.Step.{stopped, completed, stepOf}
 use Rattle.machine.specs.Run.{final, goOn, stepsOf, judge, runOf}
 use Rattle.machine.specs.Trace.{traceOf, shownOf}
 use Rattle.trace.specs.Seen.{seenIn}
@@ -102,8 +103,8 @@ lines-of-the-steps b i t s m k z h =
 
 -- 7. The line of a completed step shows the program counter before it, the entry that was made, and the address where memory may have changed.
 pub a-line-is-true : (t : ℕ) (s : State) (m k : List ℕ) (d : Done) (l j : List ℕ) (x : Line) → stepOf t s m k ≡ completed d l j x
-    → Shows (s .control) d x × ChangedAt (x .address) m l
-a-line-is-true t s m k d l j x e = subst (λ (y : Stepped). Told (s .control) m y) e (told t s m k)
+    → (x .pc ≡ pcOf (s .control)) × Shows t s m k d x × ChangedAt (x .address) m l
+a-line-is-true t s m k d l j x e = subst (Told t s m k) e (told t s m k)
 
 -- 8. An entry has its vector and its bits.
 pub an-entry-by-its-bits : (e : Entry) (c : Control) → Bits e c (entered e c)

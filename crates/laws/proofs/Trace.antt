@@ -2,7 +2,7 @@
 -- Assumes nothing.
 use Prim.Native.Nat.{ℕ, zero, suc, _+_, _≤_, _<_}
 use mathlib.Core.Path.{_≡_, refl, ap, _∙_}
-use mathlib.Core.Bool.{Bool, true, false, cond, not, _&&_}
+use mathlib.Core.Bool.{Bool, true, false, cond}
 use mathlib.Core.List.{List}
 use native.Mathlib.Omega.{arith}
 use native.Mathlib.Nat.{not-suc-le-zero}
@@ -17,15 +17,13 @@ use Rattle.word.proofs.Memory.{store-kept}
 use Rattle.isa.specs.declared.Instr.{Instr}
 use Rattle.cpu.specs.Control.{pcOf, withPc, withSfr, withPsw, withHwdbg, withPending, tf}
 use Rattle.cpu.specs.Entries.{enter, entered}
-use Rattle.cpu.specs.Exec.{exec, sourcesOf}
+use Rattle.cpu.specs.Exec.{sourcesOf}
 use Rattle.cpu.specs.declared.Control.{Control}
-use Rattle.cpu.specs.declared.Effect.{Effect}
 use Rattle.cpu.specs.declared.Entry.{Entry}
 use Rattle.marks.specs.Marks.{taint, blocked}
-use Rattle.marks.specs.declared.Flags.{Flags}
 use Rattle.marks.specs.declared.Taint.{Taint}
 use Rattle.instruction.specs.Fetch.{fetchOf}
-use Rattle.instruction.specs.Act.{Val, reachOf, outside, loadedFrom, loadedMark, actOf}
+use Rattle.instruction.specs.Act.{Val, outside, loadedMark, actOf}
 use Rattle.instruction.specs.declared.Reply.{Reply}
 use Rattle.instruction.specs.declared.Fetched.{Fetched}
 use Rattle.instruction.specs.declared.Reach.{Reach}
@@ -40,14 +38,9 @@ use Rattle.machine.specs.declared.Event.{Event}
 use Rattle.machine.specs.declared.Judged.{Judged}
 use Rattle.machine.specs.declared.Line.{Line}
 use Rattle.trace.specs.declared.Seen.{Seen}
-use Rattle.laws.specs.Shows.{Shows, Entered, Bits, ChangedAt}
+use Rattle.laws.specs.Shows.{reachIn, effectIn, Shows, by-choice, by-instruction, Entered, Bits, ChangedAt}
 
 -- ---- one step and its line
-
--- what the line of a completed step says: its program counter, its entry, and where memory changed
-abbrev pub Told : Control → List ℕ → Stepped → Type 0
-Told c m (stopped r) = Unit {0}
-Told c m (completed d l j x) = Shows c d x × ChangedAt (x .address) m l
 
 stored-at : (r : Reach) (v : ℕ) (m : List ℕ) → ChangedAt (dataOf r) m (storedTo r v m)
 stored-at Reach.Nowhere v m = refl
@@ -66,34 +59,40 @@ stored-at (Reach.Writes w a) v m = λ i h. go (inside m a (bytesOf w)) i h
     go false i h = refl
 stored-at (Reach.Raises n) v m = refl
 
-acted : (t u : Bool) (p q : Reply) (e : Effect) (n : Taint) (r : Reach) (x : Val) (c : Control) (m k : List ℕ)
-    → Told c m (actStep (cond t (Act.Stop p) (cond u (Act.Stop q) (Act.Does e n r))) x c m k)
-unfolding doneOf lineOf
-acted true u p q e n r x c m k = tt
-acted false true p q e n r x c m k = tt
-acted false false p q e n r x c m k =
-    (record { at = refl; found = e .control; falls = on (c .psw) 4 && not (e .wrote); made = refl }, stored-at r (x .value) m)
+-- what the line of a completed step says: its program counter, its entry, and where memory changed
+module _ (t : ℕ) (s : State) (m k : List ℕ) where
+  abbrev pub Told : Stepped → Type 0
+  Told (stopped r) = Unit {0}
+  Told (completed d l j x) = (x .pc ≡ pcOf (s .control)) × Shows t s m k d x × ChangedAt (x .address) m l
 
-acts : (i : Instr) (x y : Val) (f : Flags) (c : Control) (m k : List ℕ) → Told c m (actStep (actOf i x y f c m k) x c m k)
-unfolding actOf
-acts i x y f c m k =
-    let r : Reach = reachOf i (y .value) c in
-    acted (blocked i (y .mark) f) (outside r m) Reply.MarkedOperand Reply.DataOutside (exec i (x .value) (y .value) (loadedFrom r m) c)
-    (taint i (x .mark) (y .mark) (loadedMark r k) (tf c) f) r x c m k
+  module _ (i : Instr) (c : chosen t (s .control) ≡ Event.Instruction) (f : fetchOf (pcOf (s .control)) m k ≡ Fetched.Run i) where
+    acted : (b u : Bool) (p q : Reply) (n : Taint)
+        → Told (actStep (cond b (Act.Stop p) (cond u (Act.Stop q) (Act.Does (effectIn i s m) n (reachIn i s)))) (valueAt s (sourcesOf i .first)) (s .control) m k)
+    unfolding doneOf lineOf
+    acted true u p q n = tt
+    acted false true p q n = tt
+    acted false false p q n = (refl, by-instruction i c f refl refl, stored-at (reachIn i s) (valueAt s (sourcesOf i .first) .value) m)
 
-fetched : (x : Fetched) (s : State) (m k : List ℕ) → Told (s .control) m (fetchStep x s m k)
-unfolding instrStep
-fetched (Fetched.Stop r) s m k = tt
-fetched (Fetched.Run i) s m k = acts i (valueAt s (sourcesOf i .first)) (valueAt s (sourcesOf i .second)) (s .flags) (s .control) m k
+    acts : Told (instrStep i s m k)
+    unfolding instrStep actOf
+    acts =
+        let x : Val = valueAt s (sourcesOf i .first) in
+        let y : Val = valueAt s (sourcesOf i .second) in
+        acted (blocked i (y .mark) (s .flags)) (outside (reachIn i s) m) Reply.MarkedOperand Reply.DataOutside
+        (taint i (x .mark) (y .mark) (loadedMark (reachIn i s) k) (tf (s .control)) (s .flags))
 
-happened : (v : Event) (s : State) (m k : List ℕ) → Told (s .control) m (eventStep v s m k)
-unfolding entryDone
-happened (Event.Enter e) s m k = (record { at = refl; found = s .control; falls = on (s .control .psw) 4; made = refl }, refl)
-happened Event.Instruction s m k = fetched (fetchOf (pcOf (s .control)) m k) s m k
+  fetched : (x : Fetched) → chosen t (s .control) ≡ Event.Instruction → fetchOf (pcOf (s .control)) m k ≡ x → Told (fetchStep x s m k)
+  fetched (Fetched.Stop r) c f = tt
+  fetched (Fetched.Run i) c f = acts i c f
 
-pub told : (t : ℕ) (s : State) (m k : List ℕ) → Told (s .control) m (stepOf t s m k)
-unfolding stepOf
-told t s m k = happened (chosen t (s .control)) s m k
+  happened : (v : Event) → chosen t (s .control) ≡ v → Told (eventStep v s m k)
+  unfolding entryDone
+  happened (Event.Enter e) c = (refl, by-choice c refl refl, refl)
+  happened Event.Instruction c = fetched (fetchOf (pcOf (s .control)) m k) c refl
+
+  pub told : Told (stepOf t s m k)
+  unfolding stepOf
+  told = happened (chosen t (s .control)) refl
 
 -- ---- an entry by its vector and its bits
 

@@ -2,26 +2,47 @@
 -- Assumes nothing.
 use Prim.Native.Nat.{ℕ, _+_, _%_, _≤_, _<_}
 use mathlib.Core.Path.{_≡_}
-use mathlib.Core.Bool.{Bool, true, false}
+use mathlib.Core.Bool.{true, false, not, _&&_}
 use mathlib.Core.List.{List}
 use lib.ListN.{getD}
 use Rattle.word.specs.Bits.{on, fieldOf}
 use Rattle.word.specs.Numbers.{lslOf}
+use Rattle.isa.specs.declared.Instr.{Instr}
 use Rattle.cpu.specs.Control.{pcOf}
 use Rattle.cpu.specs.Entries.{vector, entered, fallen}
+use Rattle.cpu.specs.Exec.{exec, sourcesOf}
 use Rattle.cpu.specs.declared.Control.{Control}
+use Rattle.cpu.specs.declared.Effect.{Effect}
 use Rattle.cpu.specs.declared.Entry.{Entry}
+use Rattle.instruction.specs.Fetch.{fetchOf}
+use Rattle.instruction.specs.Act.{reachOf, loadedFrom}
+use Rattle.instruction.specs.declared.Fetched.{Fetched}
+use Rattle.instruction.specs.declared.Reach.{Reach}
+use Rattle.machine.specs.State.{valueAt}
+use Rattle.machine.specs.Step.{chosen, dataOf}
+use Rattle.machine.specs.declared.State.{State}
+use Rattle.machine.specs.declared.Event.{Event}
 use Rattle.machine.specs.declared.Done.{Done}
 use Rattle.machine.specs.declared.Data.{Data}
 use Rattle.machine.specs.declared.Line.{Line}
 
--- a step from control part c on: its line has the program counter before it, and the entry that the line names is the one that was made, on the control
--- part that it found; then the timer fell or not
-pub record Shows (c : Control) (d : Done) (x : Line) : Type 0 where
-  pub at : x .pc ≡ pcOf c
-  pub found : Control
-  pub falls : Bool
-  pub made : d .control ≡ fallen falls (entered (x .entry) found)
+-- what instruction i reaches in state s, and what it makes of values and control part there, before the entry that it may make
+abbrev pub reachIn : Instr → State → Reach
+reachIn i s = reachOf i (valueAt s (sourcesOf i .second) .value) (s .control)
+
+abbrev pub effectIn : Instr → State → List ℕ → Effect
+effectIn i s m = exec i (valueAt s (sourcesOf i .first) .value) (valueAt s (sourcesOf i .second) .value) (loadedFrom (reachIn i s) m) (s .control)
+
+-- A completed step made d from state s, memory m and marks k on, with the tape's byte t, and shows line x. The entry that the line names is the one that was
+-- made: on the control part before the step if an entry was chosen, on what the instruction left if one was done; then the timer fell or not.
+pub data Shows (t : ℕ) (s : State) (m k : List ℕ) (d : Done) (x : Line) : Type 0 where
+  by-choice : chosen t (s .control) ≡ Event.Enter (x .entry) → x .address ≡ Data.Nowhere
+      → d .control ≡ fallen (on (s .control .psw) 4) (entered (x .entry) (s .control))
+      → Shows t s m k d x
+  by-instruction : (i : Instr) → chosen t (s .control) ≡ Event.Instruction → fetchOf (pcOf (s .control)) m k ≡ Fetched.Run i
+      → x .address ≡ dataOf (reachIn i s)
+      → d .control ≡ fallen (on (s .control .psw) 4 && not (effectIn i s m .wrote)) (entered (x .entry) (effectIn i s m .control))
+      → Shows t s m k d x
 
 -- an entry by its vector and its bits, from control part c to n: IPC, IP, the program counter, and what its kind sets
 pub record Entered (low : ℕ) (c n : Control) : Type 0 where
