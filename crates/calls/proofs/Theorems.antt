@@ -13,9 +13,9 @@ use Rattle.abi.specs.Call.{Answer, called}
 use Rattle.abi.proofs.Theorems.{Ensured}
 use Rattle.script.specs.Line.{blank}
 use Rattle.script.specs.Reader.{fed, startOf}
-use Rattle.script.specs.Answer.{answerBy, page, writeOn}
-use Rattle.script.specs.Whole.{textOf, joined, feedAll}
-use Rattle.script.proofs.Theorems.{calls-answer}
+use Rattle.answer.specs.Answer.{answerBy, page, writeOn}
+use Rattle.answer.specs.Whole.{textOf, joined, feedAll}
+use Rattle.answer.proofs.Theorems.{calls-answer}
 use Rattle.calls.specs.Records.{PswClause, SameRecord, SamePswBytes, SameAnswer, Call, answersOf, SameAnswers, none, more}
 use Rattle.calls.specs.Inputs.{marksOf, AlikeInputs}
 use Rattle.calls.proofs.Records.{state-same, record-same, call-same, call-bytes}
