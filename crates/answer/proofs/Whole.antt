@@ -1,24 +1,24 @@
 -- Bytes taken one by one come to the same as an input taken line by line.
 -- Assumes nothing.
-use Prim.Native.Nat.{ℕ, suc, _+_, _%_, _<_, _≤_, min}
+use Prim.Native.Nat.{ℕ, suc, _+_, _%_, _<_, _≤_}
 use mathlib.Core.Path.{_≡_, refl, sym, ap, _∙_}
 use mathlib.Core.Bool.{Bool, true, false, cond, _&&_}
 use mathlib.Core.List.{List, [], _∷_, _++_}
-use native.Mathlib.Nat.{le-refl}
 use native.Mathlib.Numerals.{add-one}
 use native.Mathlib.Omega.{arith}
-use lib.Dec.{ltb, eqb, eqb·suc-zero}
+use lib.Dec.{ltb, eqb}
 use lib.ListN.{length, take, set, length-append, length-take, length-drop, length-set}
-use lib.Seq.{take-all, take-suc-set, take-append-le, length-take-le}
-use borrow.Author.Tests.{ltb-true, ltb-false, le-leb, lt-leb, eqb-true, ne-eqb}
+use lib.Seq.{take-suc-set, length-take-le}
+use borrow.Author.Tests.{ltb-true, ltb-false, lt-ltb, le-leb, lt-leb, eqb-true, ne-eqb}
 use Rattle.text.specs.Digits.{digitsRead, decimalOf, addressOf, areHex}
 use Rattle.text.specs.Fields.{beforeOf, beyondOf, sameOf}
 use Rattle.text.specs.declared.Read.{Read}
 use Rattle.script.specs.Line.{Told, told, blank, sizeOf, budgetOf, putOf, countOf, markOf, firstOf, bodyOf, lineOf, numberAfter, wordMem, wordAt, wordMark, wordRun, areBytes}
 use Rattle.script.specs.Fault.{good, faultOf}
 use Rattle.script.specs.declared.Fault.{Fault}
-use Rattle.script.specs.Reader.{Fed, fed, startOf, readerAfter, byteOf, feedOf}
-use Rattle.answer.specs.Answer.{answered, answerBy}
+use Rattle.script.specs.Reader.{Fed, fed, startOf, endedOf, byteOf, feedOf}
+use Rattle.script.proofs.Theorems.{Kept, bad-stays}
+use Rattle.answer.specs.Answer.{badText, answered, answerBy}
 use Rattle.answer.specs.Whole.{Script, script, linesOf, leftOf, afterLine, afterLines, textOf, isEnded}
 use Rattle.script.specs.declared.Phase.{Phase}
 use Rattle.script.specs.declared.Reader.{Reader}
@@ -116,18 +116,6 @@ long-is-bad (Phase.Body n) l m k h = let f = fields-long l in body-long n m k (b
 long-is-bad (Phase.Done n b) l m k h = refl
 long-is-bad Phase.Bad l m k h = refl
 
--- so its first 45 bytes say what it says
-kept-enough : (p : Phase) (l m k : List ℕ) → lineOf p (take 45 l) m k ≡ lineOf p l m k
-kept-enough p l m k = go (ltb (length l) 45) refl
-  where
-    go : (t : Bool) → ltb (length l) 45 ≡ t → lineOf p (take 45 l) m k ≡ lineOf p l m k
-    go true e =
-        let q = ltb-true (length l) 45 e in
-        rw (take-all 45 l (omega arith))
-    go false e =
-        let q = ltb-false (length l) 45 e in
-        long-is-bad p (take 45 l) m k (rw (length-take-le 45 l q) (le-refl 45)) ∙ sym (long-is-bad p l m k q)
-
 -- ---- bytes and lines
 
 abbrev reader : Phase → ℕ → ℕ → Fault → Reader
@@ -139,80 +127,99 @@ answerFed s = answerBy (s .reader) (s .mem) (s .marks) .text
 abbrev answerTold : Script → List ℕ → List ℕ
 answerTold s l = answered (s .told .phase) (isEnded l) (s .number) (s .told .mem) (s .told .marks) .text
 
--- u bytes of the room for a line are the first 45 of the unfinished line p
+-- u bytes of the room for a line are the unfinished line p
 pub record Holds (u : ℕ) (line p : List ℕ) : Type 0 where
   pub room : length line ≡ 45
-  pub few : u ≤ 45
-  pub first : take u line ≡ take 45 p
+  pub few : u ≤ 44
+  pub first : take u line ≡ p
 
 -- from there on, bytes and lines come to the same answer
 abbrev Alike : List ℕ → Type 0
 Alike t = (ph : Phase) (n u : ℕ) (f : Fault) (line p m k : List ℕ) → Holds u line p
     → answerFed (feedOf t (fed (reader ph n u f) line m k)) ≡ answerTold (afterLines (linesOf p t) (script (told ph m k) n)) (leftOf p t)
 
-many : (u : ℕ) (line p : List ℕ) → Holds u line p → u ≡ min 45 (length p)
-many u line p h =
-    let e : length (take u line) ≡ length (take 45 p) = ap length (h .first) in
-    sym (length-take-le u line (omega arith)) ∙ e ∙ length-take 45 p
-
-none-left : (u : ℕ) (p : List ℕ) → u ≡ min 45 (length p) → eqb u 0 ≡ isEnded p
-none-left u [] e = rw e
-none-left u (x ∷ p) e = ne-eqb u 0 (λ (z : u ≡ 0). omega arith) ∙ sym (eqb·suc-zero (length p))
+many : (u : ℕ) (line p : List ℕ) → Holds u line p → u ≡ length p
+many u line p h = sym (length-take-le u line (omega (arith, h .room, h .few))) ∙ ap length (h .first)
 
 alike-end : Alike []
 unfolding feedOf linesOf leftOf afterLines
-alike-end ph n u f line p m k h = ap (λ (e : Bool). answered ph e n m k .text) (none-left u p (many u line p h))
+alike-end ph n u f line p m k h = ap (λ (i : ℕ). answered ph (eqb i 0) n m k .text) (many u line p h)
 
--- a byte of the line more: there is room for it, or there is none
-kept-one : (u b : ℕ) (line p : List ℕ) → Holds u line p → u < 45 → Holds (u + 1) (set line u b) (p ++ (b ∷ []))
-kept-one u b line p h l =
-    let e : u ≡ min 45 (length p) = many u line p h in
-    let q : length (p ++ (b ∷ [])) ≤ 45 = rw length-append (omega arith) in
-    record {
-      room = length-set line u b ∙ h .room;
-      few = omega arith;
-      first =
-          ap (λ (i : ℕ). take i (set line u b)) (add-one u)
-          ∙ take-suc-set line u b (omega (arith, h .room))
-          ∙ ap (λ (x : List ℕ). x ++ (b ∷ [])) (h .first ∙ take-all 45 p (omega arith))
-          ∙ sym (take-all 45 (p ++ (b ∷ [])) q);
-    }
+-- a byte of the line more
+kept-one : (u b : ℕ) (line p : List ℕ) → Holds u line p → take (u + 1) (set line u b) ≡ p ++ (b ∷ [])
+kept-one u b line p h =
+    ap (λ (i : ℕ). take i (set line u b)) (add-one u) ∙ take-suc-set line u b (omega (arith, h .room, h .few)) ∙ ap (λ (x : List ℕ). x ++ (b ∷ [])) (h .first)
 
-kept-none : (u b : ℕ) (line p : List ℕ) → Holds u line p → 45 ≤ u → Holds u line (p ++ (b ∷ []))
-kept-none u b line p h l =
-    let e : u ≡ min 45 (length p) = many u line p h in
-    record { room = h .room; few = h .few; first = h .first ∙ sym (take-append-le 45 p (b ∷ []) (omega arith)) }
+-- past a bad line, and in a line that is too long already, the answer is fixed
+bad-told : (t p m k : List ℕ) (n : ℕ) → answerTold (afterLines (linesOf p t) (script (told Phase.Bad m k) n)) (leftOf p t) ≡ badText n
+unfolding linesOf leftOf afterLines lineOf answered
+bad-told [] p m k n = refl
+bad-told (b ∷ t) p m k n = go (eqb b 10) (bad-told t [] m k n) (bad-told t (p ++ (b ∷ [])) m k n)
+  where
+    go : (q : Bool) → answerTold (afterLines (linesOf [] t) (script (told Phase.Bad m k) n)) (leftOf [] t) ≡ badText n
+        → answerTold (afterLines (linesOf (p ++ (b ∷ [])) t) (script (told Phase.Bad m k) n)) (leftOf (p ++ (b ∷ [])) t) ≡ badText n
+        → answerTold (afterLines (cond q (p ∷ linesOf [] t) (linesOf (p ++ (b ∷ [])) t)) (script (told Phase.Bad m k) n)) (cond q (leftOf [] t) (leftOf (p ++ (b ∷ [])) t)) ≡ badText n
+    go true x y = x
+    go false x y = y
+
+bad-fed : (t line m k : List ℕ) (n u : ℕ) (f : Fault) → answerFed (feedOf t (fed (reader Phase.Bad n u f) line m k)) ≡ badText n
+unfolding answered
+bad-fed t line m k n u f =
+    let s : Kept (fed (reader Phase.Bad n u f) line m k) (feedOf t (fed (reader Phase.Bad n u f) line m k)) = bad-stays t (fed (reader Phase.Bad n u f) line m k) refl in
+    rw (s .phase) (ap badText (s .number))
+
+module _ (ph : Phase) (n : ℕ) (m k : List ℕ) where
+  long-told : (t p : List ℕ) → 45 ≤ length p → answerTold (afterLines (linesOf p t) (script (told ph m k) n)) (leftOf p t) ≡ badText n
+  unfolding linesOf leftOf afterLines answered
+  long-told [] p h = rw (ne-eqb (length p) 0 (λ (e : length p ≡ 0). omega arith)) (go ph)
+    where
+      go : (x : Phase) → answered x false n m k .text ≡ badText n
+      go Phase.First = refl
+      go (Phase.Body i) = refl
+      go (Phase.Done i b) = refl
+      go Phase.Bad = refl
+  long-told (b ∷ t) p h = go (eqb b 10) (bad-told t [] m k n) (long-told t (p ++ (b ∷ [])) (rw length-append (omega arith)))
+    where
+      go : (q : Bool) → answerTold (afterLines (linesOf [] t) (script (told Phase.Bad m k) n)) (leftOf [] t) ≡ badText n
+          → answerTold (afterLines (linesOf (p ++ (b ∷ [])) t) (script (told ph m k) n)) (leftOf (p ++ (b ∷ [])) t) ≡ badText n
+          → answerTold (afterLines (cond q (p ∷ linesOf [] t) (linesOf (p ++ (b ∷ [])) t)) (script (told ph m k) n)) (cond q (leftOf [] t) (leftOf (p ++ (b ∷ [])) t)) ≡ badText n
+      go true x y = ap (λ (z : Told). answerTold (afterLines (linesOf [] t) (script z (numberAfter (z .phase) n))) (leftOf [] t)) (long-is-bad ph p m k h) ∙ x
+      go false x y = y
 
 alike-more : (b : ℕ) (t : List ℕ) → Alike t → Alike (b ∷ t)
 unfolding feedOf byteOf linesOf leftOf afterLines
 alike-more b t rest ph n u f line p m k h = go (eqb b 10)
   where
-    g : Fault
-    g = faultOf ph f (take u line)
-
     ended : (x : Told) → x ≡ lineOf ph p m k
-        → answerFed (feedOf t (fed (reader (x .phase) (numberAfter (x .phase) n) 0 g) line (x .mem) (x .marks)))
+        → answerFed (feedOf t (fed (reader (x .phase) (numberAfter (x .phase) n) 0 (faultOf ph f (take u line))) line (x .mem) (x .marks)))
         ≡ answerTold (afterLines (linesOf [] t) (afterLine p (script (told ph m k) n))) (leftOf [] t)
     ended x e =
-        rest (x .phase) (numberAfter (x .phase) n) 0 g line [] (x .mem) (x .marks) (record { room = h .room; few = omega arith; first = refl })
+        rest (x .phase) (numberAfter (x .phase) n) 0 (faultOf ph f (take u line)) line [] (x .mem) (x .marks) (record { room = h .room; few = omega arith; first = refl })
         ∙ ap (λ (y : Told). answerTold (afterLines (linesOf [] t) (script y (numberAfter (y .phase) n))) (leftOf [] t)) e
 
-    said : lineOf ph (take u line) m k ≡ lineOf ph p m k
-    said = ap (λ (l : List ℕ). lineOf ph l m k) (h .first) ∙ kept-enough ph p m k
+    next : Fed
+    next = fed (reader ph n (u + 1) f) (set line u b) m k
 
-    kept : (q : Bool) → ltb u 45 ≡ q
-        → answerFed (feedOf t (fed (reader ph n (cond q (u + 1) u) f) (cond q (set line u b) line) m k))
+    kept : (q : Bool) → ltb u 44 ≡ q
+        → answerFed (feedOf t (cond q next (endedOf (next .reader) (set line u b) m k)))
         ≡ answerTold (afterLines (linesOf (p ++ (b ∷ [])) t) (script (told ph m k) n)) (leftOf (p ++ (b ∷ [])) t)
-    kept true e = rest ph n (u + 1) f (set line u b) (p ++ (b ∷ [])) m k (kept-one u b line p h (ltb-true u 45 e))
-    kept false e = rest ph n u f line (p ++ (b ∷ [])) m k (kept-none u b line p h (ltb-false u 45 e))
+    kept true e =
+        let l = ltb-true u 44 e in
+        rest ph n (u + 1) f (set line u b) (p ++ (b ∷ [])) m k
+        (record { room = length-set line u b ∙ h .room; few = omega arith; first = kept-one u b line p h })
+    kept false e =
+        let l = ltb-false u 44 e in
+        let w : 45 ≤ length (p ++ (b ∷ [])) = rw length-append (omega (arith, many u line p h)) in
+        let x : lineOf ph (take (u + 1) (set line u b)) m k ≡ told Phase.Bad m k = ap (λ (l : List ℕ). lineOf ph l m k) (kept-one u b line p h) ∙ long-is-bad ph (p ++ (b ∷ [])) m k w in
+        rw x (bad-fed t (set line u b) m k n 0 (faultOf ph f (take (u + 1) (set line u b)))) ∙ sym (long-told ph n m k t (p ++ (b ∷ [])) w)
 
     go : (q : Bool)
-        → answerFed (feedOf t (cond q
-        (fed (readerAfter (lineOf ph (take u line) m k) n g) line (lineOf ph (take u line) m k .mem) (lineOf ph (take u line) m k .marks))
-        (fed (reader ph n (cond (ltb u 45) (u + 1) u) f) (cond (ltb u 45) (set line u b) line) m k)))
+        → answerFed (feedOf t (cond q (endedOf (reader ph n u f) line m k)
+        (cond (ltb u 44) (fed (reader ph n (cond (ltb u 45) (u + 1) u) f) (cond (ltb u 45) (set line u b) line) m k)
+        (endedOf (reader ph n (cond (ltb u 45) (u + 1) u) f) (cond (ltb u 45) (set line u b) line) m k))))
         ≡ answerTold (afterLines (cond q (p ∷ linesOf [] t) (linesOf (p ++ (b ∷ [])) t)) (script (told ph m k) n)) (cond q (leftOf [] t) (leftOf (p ++ (b ∷ [])) t))
-    go true = ended (lineOf ph (take u line) m k) said
-    go false = kept (ltb u 45) refl
+    go true = ended (lineOf ph (take u line) m k) (ap (λ (l : List ℕ). lineOf ph l m k) (h .first))
+    go false = rw (lt-ltb u 45 (omega (arith, h .few))) (kept (ltb u 44) refl)
 
 alike : (t : List ℕ) → Alike t
 alike [] = alike-end

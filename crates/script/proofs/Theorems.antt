@@ -4,11 +4,11 @@ use Prim.Native.Nat.{ℕ}
 use mathlib.Core.Path.{_≡_, refl, _∙_}
 use mathlib.Core.Bool.{Bool, true, false, cond}
 use mathlib.Core.List.{List, [], _∷_}
-use lib.Dec.{eqb}
+use lib.Dec.{ltb, eqb}
 use lib.ListN.{take}
 use Rattle.script.specs.Line.{lineOf}
 use Rattle.script.specs.Fault.{faultOf}
-use Rattle.script.specs.Reader.{Fed, fed, keptBy, keptIn, readerAfter, toldBy, faultBy, startOf, byteOf, feedOf}
+use Rattle.script.specs.Reader.{Fed, fed, keptBy, keptIn, endedOf, startOf, byteOf, feedOf}
 use Rattle.script.specs.Statements.{isBad, isFault}
 use Rattle.script.specs.declared.Phase.{Phase}
 use Rattle.script.specs.declared.Reader.{Reader}
@@ -18,16 +18,19 @@ use Rattle.script.proofs.Reasons.{line-bad}
 abbrev Explained : Reader → Type 0
 Explained r = isFault (r .fault .reason) ≡ isBad (r .phase)
 
+ended-explained : (r : Reader) (l m k : List ℕ) → Explained r → Explained (endedOf r l m k .reader)
+ended-explained r l m k h = line-bad (r .phase) (r .fault) (take (r .used) l) m k h
+
 byte-explained : (b : ℕ) (s : Fed) → Explained (s .reader) → Explained (byteOf b s .reader)
 unfolding byteOf
-byte-explained b s h = go (eqb b 10)
+byte-explained b s h = go (eqb b 10) (ltb (s .reader .used) 44)
   where
-    go : (t : Bool) → Explained (cond t
-        (fed (readerAfter (toldBy (s .reader) (s .line) (s .mem) (s .marks)) (s .reader .number) (faultBy (s .reader) (s .line))) (s .line)
-        (toldBy (s .reader) (s .line) (s .mem) (s .marks) .mem) (toldBy (s .reader) (s .line) (s .mem) (s .marks) .marks))
-        (fed (keptBy (s .reader)) (keptIn b (s .reader) (s .line)) (s .mem) (s .marks)) .reader)
-    go true = line-bad (s .reader .phase) (s .reader .fault) (take (s .reader .used) (s .line)) (s .mem) (s .marks) h
-    go false = h
+    go : (t u : Bool) → Explained (cond t (endedOf (s .reader) (s .line) (s .mem) (s .marks))
+        (cond u (fed (keptBy (s .reader)) (keptIn b (s .reader) (s .line)) (s .mem) (s .marks))
+        (endedOf (keptBy (s .reader)) (keptIn b (s .reader) (s .line)) (s .mem) (s .marks))) .reader)
+    go true u = ended-explained (s .reader) (s .line) (s .mem) (s .marks) h
+    go false true = h
+    go false false = ended-explained (keptBy (s .reader)) (keptIn b (s .reader) (s .line)) (s .mem) (s .marks) h
 
 fed-explained : (t : List ℕ) (s : Fed) → Explained (s .reader) → Explained (feedOf t s .reader)
 unfolding feedOf
@@ -45,18 +48,21 @@ pub record Kept (a b : Fed) : Type 0 where
   pub mem : b .mem ≡ a .mem
   pub marks : b .marks ≡ a .marks
 
-byte-kept : (b : ℕ) (s : Fed) → s .reader .phase ≡ Phase.Bad → Kept s (byteOf b s)
-unfolding byteOf lineOf faultOf
-byte-kept b s h = go (eqb b 10)
-  where
-    next : Fed
-    next =
-        fed (readerAfter (toldBy (s .reader) (s .line) (s .mem) (s .marks)) (s .reader .number) (faultBy (s .reader) (s .line))) (s .line)
-        (toldBy (s .reader) (s .line) (s .mem) (s .marks) .mem) (toldBy (s .reader) (s .line) (s .mem) (s .marks) .marks)
+ended-kept : (b : ℕ) (s : Fed) (r : Reader) (l : List ℕ) → s .reader .phase ≡ Phase.Bad → r .phase ≡ s .reader .phase → r .number ≡ s .reader .number
+    → r .fault ≡ s .reader .fault → Kept s (endedOf r l (s .mem) (s .marks))
+unfolding lineOf faultOf
+ended-kept b s r l h p n f = rw (p, h) (record { phase = refl; number = n; fault = f; mem = refl; marks = refl })
 
-    go : (t : Bool) → Kept s (cond t next (fed (keptBy (s .reader)) (keptIn b (s .reader) (s .line)) (s .mem) (s .marks)))
-    go true = record { phase = rw h; number = rw h; fault = rw h; mem = rw h; marks = rw h }
-    go false = record { phase = refl; number = refl; fault = refl; mem = refl; marks = refl }
+byte-kept : (b : ℕ) (s : Fed) → s .reader .phase ≡ Phase.Bad → Kept s (byteOf b s)
+unfolding byteOf
+byte-kept b s h = go (eqb b 10) (ltb (s .reader .used) 44)
+  where
+    go : (t u : Bool) → Kept s (cond t (endedOf (s .reader) (s .line) (s .mem) (s .marks))
+        (cond u (fed (keptBy (s .reader)) (keptIn b (s .reader) (s .line)) (s .mem) (s .marks))
+        (endedOf (keptBy (s .reader)) (keptIn b (s .reader) (s .line)) (s .mem) (s .marks))))
+    go true u = ended-kept b s (s .reader) (s .line) h refl refl refl
+    go false true = record { phase = refl; number = refl; fault = refl; mem = refl; marks = refl }
+    go false false = ended-kept b s (keptBy (s .reader)) (keptIn b (s .reader) (s .line)) h refl refl refl
 
 pub bad-stays : (t : List ℕ) (s : Fed) → s .reader .phase ≡ Phase.Bad → Kept s (feedOf t s)
 unfolding feedOf

@@ -24,7 +24,7 @@ fed r l m k = record { reader = r; line = l; mem = m; marks = k }
 abbrev pub startOf : Reader
 startOf = record { phase = Phase.First; number = 1; used = 0; fault = good }
 
--- a line's first 45 bytes are kept, since a good line has at most 44 (`long-is-bad`)
+-- one byte more of a line; its room has 45
 abbrev pub keptBy : Reader → Reader
 keptBy r = record { phase = r .phase; number = r .number; used = cond (ltb (r .used) 45) (r .used + 1) (r .used); fault = r .fault }
 
@@ -41,14 +41,15 @@ toldBy r l m k = lineOf (r .phase) (take (r .used) l) m k
 abbrev pub faultBy : Reader → List ℕ → Fault
 faultBy r l = faultOf (r .phase) (r .fault) (take (r .used) l)
 
--- one byte, and many
+abbrev pub endedOf : Reader → List ℕ → List ℕ → List ℕ → Fed
+endedOf r l m k = fed (readerAfter (toldBy r l m k) (r .number) (faultBy r l)) l (toldBy r l m k .mem) (toldBy r l m k .marks)
+
+-- one byte, and many. A good line has at most 44 bytes (`long-is-bad`): its 45th makes a line bad, whatever follows.
 unfoldable pub byteOf : ℕ → Fed → Fed
 byteOf b s =
-    cond (eqb b 10)
-    (fed (readerAfter (toldBy (s .reader) (s .line) (s .mem) (s .marks)) (s .reader .number) (faultBy (s .reader) (s .line))) (s .line)
-    (toldBy (s .reader) (s .line) (s .mem) (s .marks) .mem)
-    (toldBy (s .reader) (s .line) (s .mem) (s .marks) .marks))
-    (fed (keptBy (s .reader)) (keptIn b (s .reader) (s .line)) (s .mem) (s .marks))
+    cond (eqb b 10) (endedOf (s .reader) (s .line) (s .mem) (s .marks))
+    (cond (ltb (s .reader .used) 44) (fed (keptBy (s .reader)) (keptIn b (s .reader) (s .line)) (s .mem) (s .marks))
+    (endedOf (keptBy (s .reader)) (keptIn b (s .reader) (s .line)) (s .mem) (s .marks)))
 
 unfoldable pub feedOf : List ℕ → Fed → Fed
 feedOf [] s = s

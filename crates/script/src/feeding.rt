@@ -69,7 +69,11 @@ fn take_byte(
     if b == 10 {
         return end_line(r, line, m, k);
     }
-    keep_byte(r, b, line)
+    let kept = keep_byte(r, b, line);
+    if r.used < 44 {
+        return kept;
+    }
+    end_line(kept, line, m, k)
 }
 
 // Before the first byte: nothing is known, and memory and marks are zero.

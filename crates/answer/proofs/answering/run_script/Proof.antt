@@ -1,10 +1,6 @@
 use borrow.Author.Needs.{needs}
 use Rattle.answer.proofs.answering.run_script.Statement.{statement}
 use Rattle.answer.proofs.answering.run_script.Tie as tie
-use Rattle.answer.proofs.answering.run_script.Reads as reads
-use Rattle.answer.proofs.answering.run_script.Lts as lts
-use Rattle.answer.proofs.answering.run_on.Reads as run-on-reads
-use Rattle.answer.proofs.writing.put_ended.Reads as put-ended-reads
 
 run-on-requires : tie.Need-run-on-requires
 run-on-requires c κs = search needs

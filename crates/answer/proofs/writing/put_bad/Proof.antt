@@ -1,13 +1,8 @@
 use Rattle.answer.proofs.Laws.{write-bad}
 use mathlib.Core.Path.{sym}
-use borrow.Author.Tests.{lt-ltb, le-ltb, le-leb, lt-leb, eq-eqb, ne-eqb}
 use borrow.Author.Needs.{needs}
 use Rattle.answer.proofs.writing.put_bad.Statement.{statement}
 use Rattle.answer.proofs.writing.put_bad.Tie as tie
-use Rattle.answer.proofs.writing.put_bad.Reads as reads
-use Rattle.answer.proofs.writing.put_bad.Lts as lts
-use Rattle.text.proofs.put_all.Reads as put-all-reads
-use Rattle.text.proofs.put_number.Reads as put-number-reads
 
 slice-aggregate-put-all : tie.Need-slice-aggregate-put-all
 slice-aggregate-put-all c = search needs

@@ -3,11 +3,6 @@ use mathlib.Core.Path.{sym}
 use borrow.Author.Needs.{needs}
 use Rattle.answer.proofs.writing.put_ended.Statement.{statement}
 use Rattle.answer.proofs.writing.put_ended.Tie as tie
-use Rattle.answer.proofs.writing.put_ended.Reads as reads
-use Rattle.answer.proofs.writing.put_ended.Lts as lts
-use Rattle.answer.proofs.writing.put_end.Reads as put-end-reads
-use Rattle.answer.proofs.writing.put_state.Reads as put-state-reads
-use Rattle.instruction.proofs.number.Reads as number-reads
 
 number-requires : tie.Need-number-requires
 number-requires c κs = search needs

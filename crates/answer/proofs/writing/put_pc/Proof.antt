@@ -1,13 +1,8 @@
 use Rattle.answer.proofs.Laws.{write-pc}
 use mathlib.Core.Path.{sym}
-use borrow.Author.Tests.{lt-ltb, le-ltb, le-leb, lt-leb, eq-eqb, ne-eqb}
 use borrow.Author.Needs.{needs}
 use Rattle.answer.proofs.writing.put_pc.Statement.{statement}
 use Rattle.answer.proofs.writing.put_pc.Tie as tie
-use Rattle.answer.proofs.writing.put_pc.Reads as reads
-use Rattle.answer.proofs.writing.put_pc.Lts as lts
-use Rattle.text.proofs.put_all.Reads as put-all-reads
-use Rattle.text.proofs.put_hex.Reads as put-hex-reads
 
 slice-aggregate-put-all : tie.Need-slice-aggregate-put-all
 slice-aggregate-put-all c = search needs

@@ -1,13 +1,9 @@
 use Rattle.text.specs.Pages.{writeOn}
-use borrow.Author.Tests.{lt-ltb, le-ltb, le-leb, lt-leb, eq-eqb, ne-eqb}
+use borrow.Author.Tests.{eq-eqb, ne-eqb}
 use Rattle.answer.specs.Answer.{registerText}
 use borrow.Author.Needs.{needs}
 use Rattle.answer.proofs.writing.put_register.Statement.{statement}
 use Rattle.answer.proofs.writing.put_register.Tie as tie
-use Rattle.answer.proofs.writing.put_register.Reads as reads
-use Rattle.answer.proofs.writing.put_register.Lts as lts
-use Rattle.answer.proofs.writing.put_register_line.Reads as put-register-line-reads
-use Rattle.text.proofs.hex.Reads as hex-reads
 
 slice-aggregate-put-register-line : tie.Need-slice-aggregate-put-register-line
 slice-aggregate-put-register-line c = search needs

@@ -1,13 +1,8 @@
 use Rattle.answer.proofs.Laws.{write-register}
 use mathlib.Core.Path.{sym}
-use borrow.Author.Tests.{lt-ltb, le-ltb, le-leb, lt-leb, eq-eqb, ne-eqb}
 use borrow.Author.Needs.{needs}
 use Rattle.answer.proofs.writing.put_register_line.Statement.{statement}
 use Rattle.answer.proofs.writing.put_register_line.Tie as tie
-use Rattle.answer.proofs.writing.put_register_line.Reads as reads
-use Rattle.answer.proofs.writing.put_register_line.Lts as lts
-use Rattle.text.proofs.put_all.Reads as put-all-reads
-use Rattle.text.proofs.put_number.Reads as put-number-reads
 
 slice-aggregate-put-all : tie.Need-slice-aggregate-put-all
 slice-aggregate-put-all c = search needs

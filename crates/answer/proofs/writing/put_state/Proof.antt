@@ -3,10 +3,6 @@ use mathlib.Core.Path.{sym}
 use borrow.Author.Needs.{needs}
 use Rattle.answer.proofs.writing.put_state.Statement.{statement}
 use Rattle.answer.proofs.writing.put_state.Tie as tie
-use Rattle.answer.proofs.writing.put_state.Reads as reads
-use Rattle.answer.proofs.writing.put_state.Lts as lts
-use Rattle.answer.proofs.writing.put_pc.Reads as put-pc-reads
-use Rattle.answer.proofs.writing.put_registers.Reads as put-registers-reads
 
 put-pc-requires : tie.Need-put-pc-requires
 put-pc-requires c κs = search needs
