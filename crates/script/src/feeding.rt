@@ -52,7 +52,10 @@ fn keep_byte(r: Reader, b: u8, line: &mut [u8; 45]) -> Reader
     let used = r.used;
     if used < 45 {
         line[used] = b;
-        return Reader { used: used + 1, ..r };
+        return Reader {
+            used: used + 1,
+            ..r
+        };
     }
     r
 }
