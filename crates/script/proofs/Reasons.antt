@@ -7,12 +7,11 @@ use mathlib.Core.List.{List, [], _∷_}
 use native.Mathlib.Omega.{arith}
 use lib.Dec.{ltb, leb, eqb}
 use lib.ListN.{length, getD}
-use lib.Seq.{sets}
 use borrow.Author.Tests.{ltb-true, ltb-false, lt-ltb, le-ltb, le-leb, leb-true, leb-false, eqb-true, ne-eqb}
 use Rattle.text.specs.Digits.{valueOf, digitsRead, digitsIn, leadingZero, decimalOf, addressOf, areHex}
 use Rattle.text.specs.Fields.{beforeOf, beyondOf, sameOf}
 use Rattle.text.specs.declared.Read.{Read}
-use Rattle.script.specs.Line.{told, sizeOf, budgetOf, isEven, areBytes, pairsOf, putOf, markFrom, countOf, markOf, firstOf, bodyOf, lineOf, wordMem, wordAt, wordMark, wordRun}
+use Rattle.script.specs.Line.{told, sizeOf, budgetOf, isEven, areBytes, putOf, countOf, markOf, firstOf, bodyOf, lineOf, wordMem, wordAt, wordMark, wordRun}
 use Rattle.script.specs.Fault.{good, found, lettersIn, badDigits, badAddress, decimalFault, addressFault, bytesFault, limitFault, awayFault, countFault, numberFault, putFault, markFault, firstFault, bodyFault, faultOf}
 use Rattle.script.specs.Statements.{isBad, isFault}
 use Rattle.script.specs.declared.Fault.{Fault}
@@ -274,6 +273,11 @@ budget-bad l r n = decimal-fault 4 l r (limitFault (decimalOf r) l) ∙ go (deci
     go (Read.Number b) = limit-bad (Phase.Done n) l (λ (i : ℕ). refl) b
 
 module _ (l : List ℕ) (n : ℕ) (m k : List ℕ) where
+  -- whatever memory and marks then are
+  body-if : (t : Bool) (x y : List ℕ) → isBad (cond t (told (Phase.Body n) x y) (told Phase.Bad m k) .phase) ≡ not t
+  body-if true x y = refl
+  body-if false x y = refl
+
   put-bad : (r : List ℕ) → isFault (putFault l r n .reason) ≡ isBad (putOf (addressOf (beforeOf r)) (beyondOf r) n m k .phase)
   unfolding putOf
   put-bad r =
@@ -281,31 +285,22 @@ module _ (l : List ℕ) (n : ℕ) (m k : List ℕ) where
       ∙ ap (λ (y : Bool). not (isNumber (addressOf (beforeOf r))) || y) (bytes-fault l (beyondOf r) (awayFault (addressOf (beforeOf r)) (length (beyondOf r) / 2) 3 l n))
       ∙ go (addressOf (beforeOf r)) (beyondOf r)
     where
+      third : (p q r s : Bool) → (p && (q && (r && s))) ≡ true → r ≡ true
+      third true true true s e = refl
+      third true true false s e = e
+      third true false r s e = let z : _≡_ {A = ℕ} 0 1 = cc in absurd (omega arith)
+      third false q r s e = let z : _≡_ {A = ℕ} 0 1 = cc in absurd (omega arith)
+
       half : (a : ℕ) (h : List ℕ) (t : Bool) → areBytes h ≡ t
-          → (not t || isFault (awayFault (Read.Number a) (length h / 2) 3 l n .reason)) ≡ isBad (cond (t && leb (a + length h / 2) n) (told (Phase.Body n) m k) (told Phase.Bad m k) .phase)
+          → (not t || isFault (awayFault (Read.Number a) (length h / 2) 3 l n .reason)) ≡ not (t && leb (a + length h / 2) n)
       half a h false e = refl
       half a h true e =
           let q : 2 ≤ length h = leb-true _ _ (third (areHex h) (isEven (length h)) (leb 2 (length h)) (leb (length h) 32) e) in
-          rw (away-fault a (length h / 2) 3 n l, ne-eqb (length h / 2) 0 (λ (y : length h / 2 ≡ 0). omega arith)) (by (leb (a + length h / 2) n))
-        where
-          third : (p q r s : Bool) → (p && (q && (r && s))) ≡ true → r ≡ true
-          third true true true s e = refl
-          third true true false s e = e
-          third true false r s e = let z : _≡_ {A = ℕ} 0 1 = cc in absurd (omega arith)
-          third false q r s e = let z : _≡_ {A = ℕ} 0 1 = cc in absurd (omega arith)
-
-          by : (t : Bool) → not (false || t) ≡ isBad (cond (true && t) (told (Phase.Body n) m k) (told Phase.Bad m k) .phase)
-          by true = refl
-          by false = refl
+          rw (away-fault a (length h / 2) 3 n l, ne-eqb (length h / 2) 0 (λ (y : length h / 2 ≡ 0). omega arith))
 
       go : (x : Read) (h : List ℕ) → (not (isNumber x) || (not (areBytes h) || isFault (awayFault x (length h / 2) 3 l n .reason))) ≡ isBad (putOf x h n m k .phase)
       go Read.Nothing h = refl
-      go (Read.Number a) h = half a h (areBytes h) refl ∙ same (areBytes h && leb (a + length h / 2) n)
-        where
-          same : (t : Bool) → isBad (cond t (told (Phase.Body n) m k) (told Phase.Bad m k) .phase)
-              ≡ isBad (cond t (told (Phase.Body n) (sets m a (pairsOf h)) k) (told Phase.Bad m k) .phase)
-          same true = refl
-          same false = refl
+      go (Read.Number a) h = half a h (areBytes h) refl ∙ sym (body-if (areBytes h && leb (a + length h / 2) n) _ _)
 
   mark-bad : (r : List ℕ) → isFault (markFault l r n .reason) ≡ isBad (markOf (addressOf (beforeOf r)) (decimalOf (beyondOf r)) n m k .phase)
   unfolding markOf countOf countFault
@@ -317,11 +312,7 @@ module _ (l : List ℕ) (n : ℕ) (m k : List ℕ) where
       go : (x c : Read) → (not (isNumber x) || (not (isNumber c) || isFault (countFault x c l n .reason))) ≡ isBad (markOf x c n m k .phase)
       go Read.Nothing c = refl
       go (Read.Number a) Read.Nothing = refl
-      go (Read.Number a) (Read.Number c) = away-fault a c 5 n l ∙ by (eqb c 0 || leb (a + c) n)
-        where
-          by : (t : Bool) → not t ≡ isBad (cond t (told (Phase.Body n) m (markFrom c k a)) (told Phase.Bad m k) .phase)
-          by true = refl
-          by false = refl
+      go (Read.Number a) (Read.Number c) = away-fault a c 5 n l ∙ sym (body-if (eqb c 0 || leb (a + c) n) _ _)
 
   body-bad : (w r : List ℕ) → isFault (bodyFault l w r n .reason) ≡ isBad (bodyOf w r n m k .phase)
   unfolding bodyFault bodyOf
