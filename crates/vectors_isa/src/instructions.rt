@@ -1,6 +1,7 @@
 // All first halves decoded, and each mnemonic's corner operands encoded.
 use crate::corners::value;
 use crate::mnemonics::Row;
+use crate::mnemonics::mnemonic;
 use crate::mnemonics::row_of;
 use crate::mnemonics::stride;
 use crate::mnemonics::with_operands;
@@ -30,7 +31,7 @@ fn fold_bits(t: &mut [u64; 300], at: usize, halves: u32, first: u16, second: u16
 
 fn found(t: &mut [u64; 300], first: u16, second: u16, size: u32, i: Instr) {
     let r = row_of(i);
-    let at = place(r.mnemonic);
+    let at = place(mnemonic(first));
     count_in(t, at);
     fold_in(t, at + 1, first as u32);
     fold_in(t, at + 1, second as u32);
@@ -70,9 +71,9 @@ pub fn decode_all(t: &mut [u64; 300]) {
     }
 }
 
-fn encode_at(t: &mut [u64; 300], i: Instr) {
+fn encode_at(t: &mut [u64; 300], m: usize, i: Instr) {
     let r = row_of(i);
-    let at = place(r.mnemonic);
+    let at = place(m);
     let e = isa::encode(i);
     if let Encoded::Nothing = e {
         count_in(t, at + 3);
@@ -82,12 +83,13 @@ fn encode_at(t: &mut [u64; 300], i: Instr) {
     fold_row(t, at + 4, r, e);
 }
 
-fn encode_corners(t: &mut [u64; 300], i: Instr) {
+fn encode_corners(t: &mut [u64; 300], m: usize, i: Instr) {
     let step = stride(i);
     let mut n: u32 = 0;
     while n < 110592 {
         encode_at(
             t,
+            m,
             with_operands(i, value(n / 2304), value(n / 48 % 48), value(n % 48)),
         );
         n += step;
@@ -95,14 +97,13 @@ fn encode_corners(t: &mut [u64; 300], i: Instr) {
 }
 
 // A mnemonic is encoded when its first half is first met.
-fn encode_first(t: &mut [u64; 300], i: Instr) {
-    let r = row_of(i);
-    let at = place(r.mnemonic);
+fn encode_first(t: &mut [u64; 300], m: usize, i: Instr) {
+    let at = place(m);
     let bits = t[at + 2];
     let none = t[at + 3];
     if bits == 0 {
         if none == 0 {
-            encode_corners(t, i);
+            encode_corners(t, m, i);
         }
     }
 }
@@ -110,9 +111,10 @@ fn encode_first(t: &mut [u64; 300], i: Instr) {
 pub fn encode_all(t: &mut [u64; 300]) {
     let mut h: u32 = 0;
     while h < 65536 {
+        let m = mnemonic(h as u16);
         match isa::decode(h as u16, 0) {
-            Decoded::Short(i) => encode_first(t, i),
-            Decoded::Long(i) => encode_first(t, i),
+            Decoded::Short(i) => encode_first(t, m, i),
+            Decoded::Long(i) => encode_first(t, m, i),
             Decoded::Nothing => {}
         }
         h += 1;

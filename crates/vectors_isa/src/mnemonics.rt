@@ -1,165 +1,69 @@
-// Instructions as rows: the mnemonic's number and three operands.
+// The mnemonic of a first half, and an instruction's operands.
 ghost use Prim.Native.Nat.{_≤_};
-use isa::AluOp;
-use isa::CmpImmOp;
-use isa::CmpOp;
-use isa::CondOp;
-use isa::ImmOp;
 use isa::Instr;
-use isa::LongOp;
-use isa::ShiftOp;
-use isa::ShortOp;
 use word::HalfDisp;
-use word::Width;
 
 pub struct Row {
-    pub mnemonic: usize,
     pub a: u32,
     pub b: u32,
     pub c: u32,
 }
 
-fn row_at(mnemonic: usize, a: u32, b: u32, c: u32) -> Row {
-    Row { mnemonic, a, b, c }
+fn row_at(a: u32, b: u32, c: u32) -> Row {
+    Row { a, b, c }
 }
 
-fn alu_mnemonic(op: AluOp) -> usize {
-    match op {
-        AluOp::Sub => 10,
-        AluOp::Add => 11,
-        AluOp::Subc => 12,
-        AluOp::Addc => 13,
-        AluOp::Mov => 14,
-        AluOp::And => 15,
-        AluOp::Or => 16,
-        AluOp::Xor => 17,
-        AluOp::Sxb => 18,
-        AluOp::Xhw => 19,
-        AluOp::Sxh => 20,
-        AluOp::Zxh => 21,
-        AluOp::Lsl => 22,
-        AluOp::Lsr => 23,
-        AluOp::Asr => 24,
-        AluOp::Mult => 25,
+// Mnemonics are numbered in the order of their first bytes, those of 0x0? and 0x1? here.
+fn low_mnemonic(n: usize) -> usize {
+    match n {
+        12 => 0,
+        13 => 1,
+        14 => 2,
+        15 => 3,
+        16 => 4,
+        18 => 5,
+        19 => 6,
+        28 => 7,
+        29 => 8,
+        30 => 9,
+        _ => 59,
     }
 }
 
-fn shift_mnemonic(op: ShiftOp) -> usize {
-    match op {
-        ShiftOp::Lsl => 0,
-        ShiftOp::Lsr => 1,
-        ShiftOp::Asr => 2,
-        ShiftOp::Mult => 3,
+pub fn mnemonic(first: u16) -> usize {
+    let n = (first / 256) as usize;
+    if n < 32 {
+        return low_mnemonic(n);
     }
-}
-
-fn cmp_mnemonic(op: CmpOp) -> usize {
-    match op {
-        CmpOp::Eq => 27,
-        CmpOp::Hs => 28,
-        CmpOp::Ls => 29,
-        CmpOp::Lt => 30,
-        CmpOp::Gt => 31,
+    if n < 64 {
+        return n - 22;
     }
-}
-
-fn cmp_imm_mnemonic(op: CmpImmOp) -> usize {
-    match op {
-        CmpImmOp::Eq => 26,
-        CmpImmOp::Lt => 32,
-        CmpImmOp::Gt => 33,
+    if n < 224 {
+        return n / 16 + 38;
     }
-}
-
-fn false_mnemonic(op: CondOp) -> usize {
-    match op {
-        CondOp::Mov => 34,
-        CondOp::Sub => 35,
-        CondOp::Add => 37,
-    }
-}
-
-fn true_mnemonic(op: CondOp) -> usize {
-    match op {
-        CondOp::Mov => 38,
-        CondOp::Sub => 39,
-        CondOp::Add => 41,
-    }
-}
-
-fn imm_mnemonic(op: ImmOp) -> usize {
-    match op {
-        ImmOp::And => 43,
-        ImmOp::Add => 44,
-        ImmOp::Mov => 45,
-    }
-}
-
-fn load_mnemonic(op: Width) -> usize {
-    match op {
-        Width::Word => 46,
-        Width::Half => 48,
-        Width::Byte => 50,
-    }
-}
-
-fn store_mnemonic(op: Width) -> usize {
-    match op {
-        Width::Word => 47,
-        Width::Half => 49,
-        Width::Byte => 51,
-    }
-}
-
-fn short_mnemonic(op: ShortOp) -> usize {
-    match op {
-        ShortOp::Sjf => 53,
-        ShortOp::Sjt => 55,
-        ShortOp::Sj => 57,
-    }
-}
-
-fn long_mnemonic(op: LongOp) -> usize {
-    match op {
-        LongOp::Jf => 52,
-        LongOp::Jt => 54,
-        LongOp::J => 56,
-        LongOp::Jl => 58,
-    }
-}
-
-fn cond_mnemonic(op: CondOp, t: bool) -> usize {
-    if t {
-        true_mnemonic(op)
-    } else {
-        false_mnemonic(op)
-    }
-}
-
-fn cond_imm_mnemonic(t: bool) -> usize {
-    if t { 40 } else { 36 }
+    n / 4 - 4
 }
 
 pub fn row_of(i: Instr) -> Row {
     match i {
-        Instr::Alu(op, d, b) => row_at(alu_mnemonic(op), d, b, 0),
-        Instr::ShiftImm(op, d, n) => row_at(shift_mnemonic(op), d, n, 0),
-        Instr::Cmp(op, d, b) => row_at(cmp_mnemonic(op), d, b, 0),
-        Instr::CmpImm(op, d, n) => row_at(cmp_imm_mnemonic(op), d, n, 0),
-        Instr::Cond(op, t, d, b) => row_at(cond_mnemonic(op, t), d, b, 0),
-        Instr::CondImm(t, d, n) => row_at(cond_imm_mnemonic(t), d, n, 0),
-        Instr::Ldrpc(d, n) => row_at(42, d, n, 0),
-        Instr::Imm(op, d, n) => row_at(imm_mnemonic(op), d, n, 0),
-        Instr::Load(w, d, n, b) => row_at(load_mnemonic(w), d, n, b),
-        Instr::Store(w, d, n, b) => row_at(store_mnemonic(w), d, n, b),
-        Instr::Mfsfr(d, n) => row_at(5, d, n, 0),
-        Instr::Mtsfr(n, b) => row_at(6, n, b, 0),
-        Instr::Jr(b) => row_at(7, b, 0, 0),
-        Instr::Jrl(b) => row_at(8, b, 0, 0),
-        Instr::Jsfr(n) => row_at(9, n, 0, 0),
-        Instr::Swint(n) => row_at(4, n, 0, 0),
-        Instr::ShortJump(op, d) => row_at(short_mnemonic(op), d.0, 0, 0),
-        Instr::LongJump(op, d) => row_at(long_mnemonic(op), d.0, 0, 0),
+        Instr::Alu(_, d, b) => row_at(d, b, 0),
+        Instr::ShiftImm(_, d, n) => row_at(d, n, 0),
+        Instr::Cmp(_, d, b) => row_at(d, b, 0),
+        Instr::CmpImm(_, d, n) => row_at(d, n, 0),
+        Instr::Cond(_, _, d, b) => row_at(d, b, 0),
+        Instr::CondImm(_, d, n) => row_at(d, n, 0),
+        Instr::Ldrpc(d, n) => row_at(d, n, 0),
+        Instr::Imm(_, d, n) => row_at(d, n, 0),
+        Instr::Load(_, d, n, b) => row_at(d, n, b),
+        Instr::Store(_, d, n, b) => row_at(d, n, b),
+        Instr::Mfsfr(d, n) => row_at(d, n, 0),
+        Instr::Mtsfr(n, b) => row_at(n, b, 0),
+        Instr::Jr(b) => row_at(b, 0, 0),
+        Instr::Jrl(b) => row_at(b, 0, 0),
+        Instr::Jsfr(n) => row_at(n, 0, 0),
+        Instr::Swint(n) => row_at(n, 0, 0),
+        Instr::ShortJump(_, d) => row_at(d.0, 0, 0),
+        Instr::LongJump(_, d) => row_at(d.0, 0, 0),
     }
 }
 

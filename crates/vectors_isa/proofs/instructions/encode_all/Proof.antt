@@ -12,6 +12,12 @@ abbrev μ-loop : tie.MeasureT-loop
 loop-holds : tie.Need-loop-holds Inv-loop μ-loop
 loop-holds c = search needs
 
+cast-mnemonic : tie.Need-cast-mnemonic Inv-loop μ-loop
+cast-mnemonic c = search needs
+
+mnemonic-requires : tie.Need-mnemonic-requires Inv-loop μ-loop
+mnemonic-requires c κs = search needs
+
 cast-decode : tie.Need-cast-decode Inv-loop μ-loop
 cast-decode c = search needs
 
@@ -52,6 +58,8 @@ encode-all-spec =
     Inv-loop
     μ-loop
     loop-holds
+    cast-mnemonic
+    mnemonic-requires
     cast-decode
     decode-requires
     enum-known-i

@@ -4,10 +4,10 @@ use Rattle.vectors_isa.proofs.instructions.encode_corners.Statement.{st
 use Rattle.vectors_isa.proofs.instructions.encode_corners.Tie as tie
 
 abbrev Inv-loop : tie.InvT-loop
-Inv-loop t₀ i step n₀ t n = n ≤ 112896
+Inv-loop t₀ m i step n₀ t n = n ≤ 112896
 
 abbrev μ-loop : tie.MeasureT-loop
-μ-loop t₀ i step n₀ t n = 112896 - n
+μ-loop t₀ m i step n₀ t n = 112896 - n
 
 stride-requires : tie.Need-stride-requires Inv-loop μ-loop
 stride-requires c κs = search needs
