@@ -33,20 +33,9 @@ fn put_found(out: &mut [u8; 256], at: usize, b: u8) -> usize {
     put_byte(out, at, b)
 }
 
-fn put_wanted(out: &mut [u8; 256], at: usize, reason: Reason) -> usize {
+// What a field should be.
+fn put_field(out: &mut [u8; 256], at: usize, reason: Reason) -> usize {
     match reason {
-        Reason::Nothing => at,
-        Reason::First => text::put_all(
-            out,
-            at,
-            b"the first line is `mem`, a tab and memory's size",
-        ),
-        Reason::Word => text::put_all(
-            out,
-            at,
-            b"a line after the first is `at`, `mark` or `run`, a tab and its fields",
-        ),
-        Reason::AfterRun => text::put_all(out, at, b"nothing stands after the `run` line"),
         Reason::Decimal => text::put_all(
             out,
             at,
@@ -70,8 +59,27 @@ fn put_wanted(out: &mut [u8; 256], at: usize, reason: Reason) -> usize {
             at,
             b"from the address that starts here on, not all lies inside memory",
         ),
+        _ => at,
+    }
+}
+
+// What a line, or the input, should be.
+fn put_wanted(out: &mut [u8; 256], at: usize, reason: Reason) -> usize {
+    match reason {
+        Reason::First => text::put_all(
+            out,
+            at,
+            b"the first line is `mem`, a tab and memory's size",
+        ),
+        Reason::Word => text::put_all(
+            out,
+            at,
+            b"a line after the first is `at`, `mark` or `run`, a tab and its fields",
+        ),
+        Reason::AfterRun => text::put_all(out, at, b"nothing stands after the `run` line"),
         Reason::Unended => text::put_all(out, at, b"the last line does not end in a newline"),
         Reason::Missing => text::put_all(out, at, b"the input ends before its `run` line"),
+        _ => put_field(out, at, reason),
     }
 }
 
