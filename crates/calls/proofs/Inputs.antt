@@ -17,10 +17,10 @@ use Rattle.machine.specs.State.{freshState}
 use Rattle.secrecy.specs.Same.{SameMem, Same}
 use Rattle.secrecy.proofs.Psw.{psw-like}
 use Rattle.script.specs.Line.{Told, told, blank, budgetOf, areBytes, pairsOf, putOf, markFrom, countOf, markOf, firstOf, bodyOf, lineOf, numberAfter, wordAt, wordMark, wordRun}
-use Rattle.script.specs.Answer.{answered}
-use Rattle.script.specs.Whole.{Script, script, linesOf, leftOf, afterLine, afterLines, begin, isEnded, textOf}
+use Rattle.answer.specs.Answer.{answered}
+use Rattle.answer.specs.Whole.{Script, script, linesOf, leftOf, afterLine, afterLines, begin, isEnded, textOf}
 use Rattle.script.specs.declared.Phase.{Phase}
-use Rattle.script.proofs.Theorems.{marked-not-written}
+use Rattle.answer.proofs.Theorems.{marked-not-written}
 use Rattle.calls.specs.Inputs.{atLine, AlikeLine, same, bytes, Alike, none, more, marksOf, AlikeInputs}
 
 -- ---- memory

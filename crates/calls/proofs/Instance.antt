@@ -11,7 +11,7 @@ use Rattle.word.specs.Bytes.{fill}
 use Rattle.text.specs.Digits.{valueOf, digitsRead, areHex}
 use Rattle.text.specs.Fields.{tabOf, sameOf}
 use Rattle.script.specs.Line.{blank, pairsOf, putOf, markFrom, countOf, markOf, firstOf, bodyOf, lineOf}
-use Rattle.script.specs.Whole.{linesOf, leftOf, afterLines, begin}
+use Rattle.answer.specs.Whole.{linesOf, leftOf, afterLines, begin}
 use Rattle.script.specs.declared.Phase.{Phase}
 use Rattle.calls.specs.Inputs.{same, bytes, none, more, marksOf, AlikeInputs}
 

@@ -13,9 +13,10 @@ use Rattle.abi.specs.Call.{Answer, called}
 use Rattle.abi.proofs.Theorems.{Ensured}
 use Rattle.script.specs.Line.{blank}
 use Rattle.script.specs.Reader.{fed, startOf}
-use Rattle.script.specs.Answer.{answerBy, page, writeOn}
-use Rattle.script.specs.Whole.{textOf, joined, feedAll}
-use Rattle.script.proofs.Theorems.{calls-answer}
+use Rattle.text.specs.Pages.{page, writeOn}
+use Rattle.answer.specs.Answer.{answerBy}
+use Rattle.answer.specs.Whole.{textOf, joined, feedAll}
+use Rattle.answer.proofs.Theorems.{calls-answer}
 use Rattle.calls.specs.Records.{PswClause, SameRecord, SamePswBytes, SameAnswer, Call, answersOf, SameAnswers, none, more}
 use Rattle.calls.specs.Inputs.{marksOf, AlikeInputs}
 use Rattle.calls.proofs.Records.{state-same, record-same, call-same, call-bytes}
@@ -79,7 +80,7 @@ equal-marks x y a = marks-same x y a
 
 -- 7. The same from what the contracts of `start`, `feed` and `answer` ensure, whatever the parts ps and qs in which the inputs come, and whatever the rooms l
 -- and h for a line held: what stands in the room o for the text is then equal, and so are the lengths.
-pub two-answers : (ps qs : List (List ℕ)) (l h o out room : List ℕ) (n i : ℕ) → AlikeInputs (joined ps) (joined qs) → length l ≡ 45 → length h ≡ 45
+pub two-answers : (ps qs : List (List ℕ)) (l h o out room : List ℕ) (n i : ℕ) → AlikeInputs (joined ps) (joined qs) → length l ≡ 45 → length h ≡ 45 → length o ≡ 256
     → page out n
     ≡ writeOn
     (answerBy (feedAll ps (fed startOf l blank blank) .reader) (feedAll ps (fed startOf l blank blank) .mem) (feedAll ps (fed startOf l blank blank) .marks) .text)
@@ -89,10 +90,10 @@ pub two-answers : (ps qs : List (List ℕ)) (l h o out room : List ℕ) (n i : �
     (answerBy (feedAll qs (fed startOf h blank blank) .reader) (feedAll qs (fed startOf h blank blank) .mem) (feedAll qs (fed startOf h blank blank) .marks) .text)
     (page o 0)
     → page out n ≡ page room i
-two-answers ps qs l h o out room n i a p q e f =
-    calls-answer ps l o out n p e
+two-answers ps qs l h o out room n i a p q r e f =
+    calls-answer ps l o out n p r e
     ∙ ap (λ (t : List ℕ). page (sets o 0 t) (length t)) (two-inputs (joined ps) (joined qs) a)
-    ∙ sym (calls-answer qs h o room i q f)
+    ∙ sym (calls-answer qs h o room i q r f)
 
 -- 8. There are such inputs: one-other of proofs/Instance.antt has two good ones, unequal in a marked word that the program loads.
 pub one-as-other : textOf one ≡ textOf other

@@ -8,7 +8,7 @@ use lib.ListN.{length, getD}
 use Rattle.text.specs.Digits.{addressOf}
 use Rattle.text.specs.declared.Read.{Read}
 use Rattle.script.specs.Line.{wordAt, areBytes, pairsOf}
-use Rattle.script.specs.Whole.{linesOf, leftOf, afterLines, begin, isEnded}
+use Rattle.answer.specs.Whole.{linesOf, leftOf, afterLines, begin, isEnded}
 
 -- `at`, an address and bytes, as they are written
 abbrev pub atLine : List ℕ → List ℕ → List ℕ

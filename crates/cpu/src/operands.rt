@@ -41,9 +41,6 @@ fn two_of(first: u32, second: u32) -> Sources
 pub fn data_address(w: Width, base: u32, n: u32) -> ByteAddr
     ensures { λ r. ⌜ r ≡ dataAddress w base n ⌝ }
 {
-    match w {
-        Width::Byte => word::align(w, word::byte_sum(ByteAddr(base), word::mult(n, 1))),
-        Width::Half => word::align(w, word::byte_sum(ByteAddr(base), word::mult(n, 2))),
-        Width::Word => word::align(w, word::byte_sum(ByteAddr(base), word::mult(n, 4))),
-    }
+    let offset = word::mult(n, word::bytes(w));
+    word::align(w, word::byte_sum(ByteAddr(base), offset))
 }

@@ -72,7 +72,7 @@ fn answer_one(
 ) {
     let r = feed_all(script::start(m, k), count, part, line, m, k);
     let mut out = [0u8; 256];
-    let n = script::answer(r, m, k, &mut out);
+    let n = answer::answer(r, m, k, &mut out);
     write_made(&out, n);
 }
 

@@ -1,11 +1,10 @@
 -- The fetch of an instruction (document 01: "first half outside, first half marked, not an instruction, second half outside, second half marked";
 -- "A program counter found odd inside a run answers 13, before all these").
 -- Assumes nothing.
-use Prim.Native.Nat.{ℕ, _%_}
+use Prim.Native.Nat.{ℕ}
 use mathlib.Core.Bool.{cond, not}
 use mathlib.Core.List.{List}
-use lib.Dec.{eqb}
-use Rattle.word.specs.Addresses.{byteSum}
+use Rattle.word.specs.Addresses.{byteSum, isOdd}
 use Rattle.word.specs.Bytes.{bytesOf, inside, loadOf}
 use Rattle.word.specs.declared.ByteAddr.{ByteAddr}
 use Rattle.word.specs.declared.Width.{Width}
@@ -36,5 +35,5 @@ found Decoded.Nothing b m k = Fetched.Stop Reply.NoInstruction
 
 unfoldable pub fetchOf : ByteAddr → List ℕ → List ℕ → Fetched
 fetchOf a m k =
-    cond (eqb (a .0 % 2) 1) (Fetched.Stop Reply.NoInstruction)
+    cond (isOdd a) (Fetched.Stop Reply.NoInstruction)
     (guarded a m k (found (decodeOf (halfAt m a) (halfAt m (afterHalf a))) (afterHalf a) m k))

@@ -1,9 +1,9 @@
 -- Parts that only the contracts of this crate's helpers cite. None is needed to say what the machine does; proofs/Laws.antt ties them to fetchOf and actOf.
 -- Assumes nothing.
-use Prim.Native.Nat.{ℕ, _/_, _%_}
+use Prim.Native.Nat.{ℕ, _/_}
 use mathlib.Core.Bool.{Bool, true, false, cond, not}
 use mathlib.Core.List.{List}
-use lib.Dec.{eqb}
+use Rattle.word.specs.Addresses.{isOdd}
 use Rattle.word.specs.Bytes.{bytesOf, inside, loadOf}
 use Rattle.word.specs.declared.ByteAddr.{ByteAddr}
 use Rattle.word.specs.declared.Width.{Width}
@@ -41,7 +41,7 @@ halfOf a m k =
     (cond (markedAt Width.Half k a) (Half.Stop Reply.FetchMarked) (Half.Bits (halfAt m a)))
 
 unfoldable pub firstHalf : ByteAddr → List ℕ → List ℕ → Half
-firstHalf a m k = cond (eqb (a .0 % 2) 1) (Half.Stop Reply.NoInstruction) (halfOf a m k)
+firstHalf a m k = cond (isOdd a) (Half.Stop Reply.NoInstruction) (halfOf a m k)
 
 -- the kinds of four bytes
 abbrev pub isLongKind : Kind → Bool

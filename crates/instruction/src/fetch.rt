@@ -33,8 +33,7 @@ fn read_half(at: ByteAddr, m: &[u8], mk: &[u8]) -> Half
 pub fn first_half(at: ByteAddr, m: &[u8], mk: &[u8]) -> Half
     ensures { λ r. ⌜ r ≡ firstHalf at (now (m .entry)) (now (mk .entry)) ⌝ }
 {
-    let odd = at.0 % 2;
-    if odd == 1 {
+    if word::is_odd(at) {
         return Half::Stop(Reply::NoInstruction);
     }
     read_half(at, m, mk)

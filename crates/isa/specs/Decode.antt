@@ -38,32 +38,29 @@ nearOf h = record { 0 = extendOf 10 h }
 abbrev pub farOf : ℕ → ℕ → HalfDisp
 farOf h s = record { 0 = extendOf 26 (h * 65536 + s) }
 
--- "bits without a meaning are zero": an instruction of two bytes, or none where its fields say so
-abbrev pub short : Instr → Decoded
-short i = Decoded.Short i
-
+-- "bits without a meaning are zero": an instruction of two bytes, or none where they are not
 abbrev pub shortIf : Bool → Instr → Decoded
 shortIf t i = cond t (Decoded.Short i) Decoded.Nothing
 
 unfoldable pub operandsOf : Kind → ℕ → ℕ → Decoded
 operandsOf Kind.Nothing h s = Decoded.Nothing
-operandsOf (Kind.Alu op) h s = short (Instr.Alu op (nibC h) (nibD h))
-operandsOf (Kind.ShiftImm op) h s = short (Instr.ShiftImm op (nibC h) (nibD h))
-operandsOf (Kind.Cmp op) h s = short (Instr.Cmp op (nibC h) (nibD h))
-operandsOf (Kind.CmpImm op) h s = short (Instr.CmpImm op (nibC h) (extendOf 4 (nibD h)))
-operandsOf (Kind.Cond op t) h s = short (Instr.Cond op t (nibC h) (nibD h))
-operandsOf (Kind.CondImm t) h s = short (Instr.CondImm t (nibC h) (extendOf 4 (nibD h)))
-operandsOf Kind.Ldrpc h s = short (Instr.Ldrpc (nibC h) (imm8 h))
-operandsOf (Kind.Imm op) h s = short (Instr.Imm op (nibC h) (immOf op (imm8 h)))
-operandsOf (Kind.Load w) h s = short (Instr.Load w (nibC h) (nibB h) (nibD h))
-operandsOf (Kind.Store w) h s = short (Instr.Store w (nibC h) (nibB h) (nibD h))
+operandsOf (Kind.Alu op) h s = Decoded.Short (Instr.Alu op (nibC h) (nibD h))
+operandsOf (Kind.ShiftImm op) h s = Decoded.Short (Instr.ShiftImm op (nibC h) (nibD h))
+operandsOf (Kind.Cmp op) h s = Decoded.Short (Instr.Cmp op (nibC h) (nibD h))
+operandsOf (Kind.CmpImm op) h s = Decoded.Short (Instr.CmpImm op (nibC h) (extendOf 4 (nibD h)))
+operandsOf (Kind.Cond op t) h s = Decoded.Short (Instr.Cond op t (nibC h) (nibD h))
+operandsOf (Kind.CondImm t) h s = Decoded.Short (Instr.CondImm t (nibC h) (extendOf 4 (nibD h)))
+operandsOf Kind.Ldrpc h s = Decoded.Short (Instr.Ldrpc (nibC h) (imm8 h))
+operandsOf (Kind.Imm op) h s = Decoded.Short (Instr.Imm op (nibC h) (immOf op (imm8 h)))
+operandsOf (Kind.Load w) h s = Decoded.Short (Instr.Load w (nibC h) (nibB h) (nibD h))
+operandsOf (Kind.Store w) h s = Decoded.Short (Instr.Store w (nibC h) (nibB h) (nibD h))
 operandsOf Kind.Mfsfr h s = shortIf (leb (nibD h) 10) (Instr.Mfsfr (nibC h) (nibD h))
 operandsOf Kind.Mtsfr h s = shortIf (leb (nibC h) 10) (Instr.Mtsfr (nibC h) (nibD h))
 operandsOf Kind.Jr h s = shortIf (eqb (nibC h) 0) (Instr.Jr (nibD h))
 operandsOf Kind.Jrl h s = shortIf (eqb (nibC h) 0) (Instr.Jrl (nibD h))
 operandsOf Kind.Jsfr h s = shortIf (eqb (nibC h) 0 && leb (nibD h) 3) (Instr.Jsfr (nibD h))
 operandsOf Kind.Swint h s = shortIf (eqb (nibC h) 0) (Instr.Swint (nibD h))
-operandsOf (Kind.ShortJump op) h s = short (Instr.ShortJump op (nearOf h))
+operandsOf (Kind.ShortJump op) h s = Decoded.Short (Instr.ShortJump op (nearOf h))
 operandsOf (Kind.LongJump op) h s = Decoded.Long (Instr.LongJump op (farOf h s))
 
 unfoldable pub decodeOf : ℕ → ℕ → Decoded

@@ -1,9 +1,13 @@
-// The small program of document 01: standard input to standard output, in parts of 4,096 bytes.
+// The small program of document 01: standard input to standard output, in parts of 4,096 bytes; why an input is bad goes to standard error.
+mod explain;
+
+use explain::explain;
 use libc::STDIN_FILENO;
 use libc::STDOUT_FILENO;
+use script::Phase;
 use script::Reader;
 
-// After a part: more may come, the input is at its end, or it cannot be read.
+// After a part: more may come, the answer is fixed, or the input cannot be read.
 enum Turn {
     More(Reader),
     Ended(Reader),
@@ -37,7 +41,18 @@ fn feed_start(
     k: &mut [u8; 16384],
 ) -> Turn {
     let n = io::count(got, part);
-    Turn::More(script::feed(r, &part[..n], line, m, k))
+    after_part(script::feed(r, &part[..n], line, m, k))
+}
+
+// What follows a bad line is not read (`rest-not-read` of crates/answer/proofs/Theorems.antt).
+fn after_part(r: Reader) -> Turn {
+    let phase = r.phase;
+    match phase {
+        Phase::First => Turn::More(r),
+        Phase::Body(_) => Turn::More(r),
+        Phase::Done(_, _) => Turn::More(r),
+        Phase::Bad => Turn::Ended(r),
+    }
 }
 
 // A proved loop has to end, and nothing says that an input does: it counts down from a number that no input uses up.
@@ -68,7 +83,7 @@ fn read_all(
     Turn::Failed
 }
 
-// The text's length is at most that of its room (`fits` of crates/script/proofs/Theorems.antt), so nothing is cut.
+// The text's length is at most that of its room (`fits` of crates/answer/proofs/Theorems.antt), so nothing is cut.
 fn write_start(text: &[u8], n: usize) {
     let end = word::at_most(n, text.len());
     if !io::write_all(STDOUT_FILENO, &text[..end]) {
@@ -83,7 +98,7 @@ fn write_made(text: &[u8; 256], n: usize) {
 
 fn write_answer(r: Reader, m: &mut [u8; 16384], k: &mut [u8; 16384]) {
     let mut out = [0u8; 256];
-    let n = script::answer(r, m, k, &mut out);
+    let n = answer::answer(r, m, k, &mut out);
     write_made(&out, n);
 }
 
@@ -96,7 +111,10 @@ fn main() {
     let t = read_all(r, &mut part, &mut line, &mut m, &mut k);
     match t {
         Turn::More(_) => {}
-        Turn::Ended(last) => write_answer(last, &mut m, &mut k),
+        Turn::Ended(last) => {
+            write_answer(last, &mut m, &mut k);
+            explain(last);
+        }
         Turn::Failed => {}
     }
 }

@@ -4,11 +4,12 @@
 -- reaches (reachOf, outside, loadedFrom, storedTo), and the tests of refusals 1, 4 and 6 (badLength, outOfForm, anyAbove). What marks add is not here: no mark slice, no
 -- marks of registers and flags, and of the replies none of 2, 3, 12 and 14.
 -- Assumes nothing.
-use Prim.Native.Nat.{ℕ, zero, suc, _+_, _%_}
+use Prim.Native.Nat.{ℕ, zero, suc, _+_}
 use mathlib.Core.Bool.{cond, not, _&&_}
 use mathlib.Core.List.{List}
-use lib.Dec.{ltb, eqb}
+use lib.Dec.{ltb}
 use lib.ListN.{length, getD, set, take}
+use Rattle.word.specs.Addresses.{isOdd}
 use Rattle.word.specs.Bits.{on}
 use Rattle.word.specs.Bytes.{inside, anyAbove}
 use Rattle.word.specs.declared.ByteAddr.{ByteAddr}
@@ -53,7 +54,7 @@ decoded Decoded.Nothing b m = Fetched.Stop Reply.NoInstruction
 -- "A program counter found odd inside a run answers 13, before all these"
 unfoldable pub fetch : ByteAddr → List ℕ → Fetched
 fetch a m =
-    cond (eqb (a .0 % 2) 1) (Fetched.Stop Reply.NoInstruction)
+    cond (isOdd a) (Fetched.Stop Reply.NoInstruction)
     (reached a m (decoded (decodeOf (halfAt m a) (halfAt m (afterHalf a))) (afterHalf a) m))
 
 -- ---- one step

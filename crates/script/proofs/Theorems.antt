@@ -1,130 +1,79 @@
--- What the reader and the answer are, taken together; read this file with specs/. The proofs are in the files that it cites.
+-- A bad input has its reason, and what follows a bad line does not count; read this file with specs/.
 -- Assumes nothing.
-use Prim.Native.Nat.{ℕ, zero, suc, _+_, _≤_}
-use mathlib.Core.Path.{_≡_, refl, sym, ap, ap₂, _∙_}
-use mathlib.Core.Bool.{Bool, true, false}
-use mathlib.Core.List.{List, [], _∷_, _++_}
-use native.Mathlib.Omega.{arith}
-use lib.Dec.{eqb}
-use lib.ListN.{length, getD, set}
-use lib.Seq.{sets}
-use native.Mathlib.Nat.{add-zero}
-use native.Mathlib.Numerals.{add-one}
-use borrow.Author.Tests.{lt-ltb}
-use Rattle.machine.specs.Run.{Final, runOf}
-use Rattle.cpu.specs.declared.Control.{Control}
-use Rattle.machine.specs.declared.State.{State}
-use Rattle.secrecy.specs.Same.{SameList, SameMem, Same, SameFinal}
-use Rattle.secrecy.proofs.Theorems.{two-runs}
-use Rattle.script.specs.Line.{blank}
-use Rattle.script.specs.Reader.{Fed, fed, startOf, byteOf, feedOf}
-use Rattle.script.specs.Answer.{answerBy, Page, page, writeOn, pcText, registerText, registersText, stateText, endedText}
-use Rattle.cpu.specs.Control.{withSfr}
-use Rattle.script.specs.Whole.{textOf, joined, feedAll}
+use Prim.Native.Nat.{ℕ}
+use mathlib.Core.Path.{_≡_, refl, _∙_}
+use mathlib.Core.Bool.{Bool, true, false, cond}
+use mathlib.Core.List.{List, [], _∷_}
+use lib.Dec.{ltb, eqb}
+use lib.ListN.{take}
+use Rattle.script.specs.Line.{lineOf}
+use Rattle.script.specs.Fault.{faultOf}
+use Rattle.script.specs.Reader.{Fed, fed, keptBy, keptIn, endedOf, startOf, byteOf, feedOf}
+use Rattle.script.specs.Statements.{isBad, isFault}
+use Rattle.script.specs.declared.Phase.{Phase}
 use Rattle.script.specs.declared.Reader.{Reader}
-use Rattle.script.proofs.Whole.{fed-whole}
-use Rattle.script.proofs.Fits.{answer-fits}
+use Rattle.script.proofs.Reasons.{line-bad}
 
--- Feeding two parts is feeding them joined.
-pub feed-append : (a b : List ℕ) (s : Fed) → feedOf (a ++ b) s ≡ feedOf b (feedOf a s)
-unfolding feedOf
-feed-append [] b s = refl
-feed-append (x ∷ a) b s = feed-append a b (byteOf x s)
+-- Whatever was fed: the reader holds a reason exactly if a line was bad.
+abbrev Explained : Reader → Type 0
+Explained r = isFault (r .fault .reason) ≡ isBad (r .phase)
 
--- So parts of any size are the input that they make.
-pub feed-parts : (ps : List (List ℕ)) (s : Fed) → feedAll ps s ≡ feedOf (joined ps) s
-unfolding feedOf feedAll joined
-feed-parts [] s = refl
-feed-parts (p ∷ ps) s = feed-parts ps (feedOf p s) ∙ sym (feed-append p (joined ps) s)
+ended-explained : (r : Reader) (l m k : List ℕ) → Explained r → Explained (endedOf r l m k .reader)
+ended-explained r l m k h = line-bad (r .phase) (r .fault) (take (r .used) l) m k h
 
--- Whatever the parts and the bytes in the room for a line: the answer is that of the whole input.
-pub answer-is-whole : (ps : List (List ℕ)) (l : List ℕ) → length l ≡ 45
-    → answerBy (feedAll ps (fed startOf l blank blank) .reader) (feedAll ps (fed startOf l blank blank) .mem) (feedAll ps (fed startOf l blank blank) .marks) .text
-    ≡ textOf (joined ps)
-answer-is-whole ps l h =
-    ap (λ (s : Fed). answerBy (s .reader) (s .mem) (s .marks) .text) (feed-parts ps (fed startOf l blank blank)) ∙ fed-whole (joined ps) l h
-
--- ---- a marked register's content is not written
-
-registers-same : (n i : ℕ) (marks : List Bool) (a b : List ℕ) → SameList false marks a b → registersText n i a marks ≡ registersText n i b marks
-unfolding registersText registerText
-registers-same zero i marks a b s = refl
-registers-same (suc n) i marks a b s =
-    ap₂ (λ (x y : List ℕ). x ++ y) (go (getD marks i false) (s .equal i)) (registers-same n (i + 1) marks a b s)
+byte-explained : (b : ℕ) (s : Fed) → Explained (s .reader) → Explained (byteOf b s .reader)
+unfolding byteOf
+byte-explained b s h = go (eqb b 10) (ltb (s .reader .used) 44)
   where
-    go : (m : Bool) → (m ≡ false → getD a i 0 ≡ getD b i 0) → registerText i (getD a i 0) m ≡ registerText i (getD b i 0) m
-    go true e = refl
-    go false e = rw (e refl)
+    go : (t u : Bool) → Explained (cond t (endedOf (s .reader) (s .line) (s .mem) (s .marks))
+        (cond u (fed (keptBy (s .reader)) (keptIn b (s .reader) (s .line)) (s .mem) (s .marks))
+        (endedOf (keptBy (s .reader)) (keptIn b (s .reader) (s .line)) (s .mem) (s .marks))) .reader)
+    go true u = ended-explained (s .reader) (s .line) (s .mem) (s .marks) h
+    go false true = h
+    go false false = ended-explained (keptBy (s .reader)) (keptIn b (s .reader) (s .line)) (s .mem) (s .marks) h
 
--- two states that differ only where marked are written alike
-pub state-same : (a b : State) → Same a b → stateText a ≡ stateText b
-unfolding stateText withSfr
-state-same a b s =
-    ap₂ (λ (x y : List ℕ). x ++ y) (ap (λ (c : Control). pcText (c .pc)) (s .control .rest))
-    (registers-same 16 0 (a .marks) (a .regs) (b .regs) (s .regs) ∙ ap (λ (k : List Bool). registersText 16 0 (b .regs) k) (s .marks))
+fed-explained : (t : List ℕ) (s : Fed) → Explained (s .reader) → Explained (feedOf t s .reader)
+unfolding feedOf
+fed-explained [] s h = h
+fed-explained (b ∷ t) s h = fed-explained t (byteOf b s) (byte-explained b s h)
 
-pub ended-same : (x y : Final) → SameFinal x y → endedText (x .ended) ≡ endedText (y .ended)
-unfolding endedText
-ended-same x y s = rw (s .reply, s .steps, state-same (x .ended .state) (y .ended .state) (s .state))
+pub a-reason-if-bad : (t l m k : List ℕ) → isFault (feedOf t (fed startOf l m k) .reader .fault .reason) ≡ isBad (feedOf t (fed startOf l m k) .reader .phase)
+a-reason-if-bad t l m k = fed-explained t (fed startOf l m k) refl
 
--- So two runs from memories that differ only in marked bytes write the same text.
-pub marked-not-written : (b : ℕ) (t m n k : List ℕ) (a c : State) → Same a c → SameMem k m n
-    → endedText (runOf b t a m k .ended) ≡ endedText (runOf b t c n k .ended)
-marked-not-written b t m n k a c s e = ended-same (runOf b t a m k) (runOf b t c n k) (two-runs b t a c m n k s e .0)
+-- After a bad line neither phase, number, reason, memory nor marks change, whatever follows.
+pub record Kept (a b : Fed) : Type 0 where
+  pub phase : b .reader .phase ≡ a .reader .phase
+  pub number : b .reader .number ≡ a .reader .number
+  pub fault : b .reader .fault ≡ a .reader .fault
+  pub mem : b .mem ≡ a .mem
+  pub marks : b .marks ≡ a .marks
 
--- ---- the room for the text
+ended-kept : (b : ℕ) (s : Fed) (r : Reader) (l : List ℕ) → s .reader .phase ≡ Phase.Bad → r .phase ≡ s .reader .phase → r .number ≡ s .reader .number
+    → r .fault ≡ s .reader .fault → Kept s (endedOf r l (s .mem) (s .marks))
+unfolding lineOf faultOf
+ended-kept b s r l h p n f = rw (p, h) (record { phase = refl; number = n; fault = f; mem = refl; marks = refl })
 
--- Every answer fits its room,
-pub fits : (r : Reader) (m k : List ℕ) → length (answerBy r m k .text) ≤ 256
-fits r m k = answer-fits (r .phase) (eqb (r .used) 0) (r .number) m k
+byte-kept : (b : ℕ) (s : Fed) → s .reader .phase ≡ Phase.Bad → Kept s (byteOf b s)
+unfolding byteOf
+byte-kept b s h = go (eqb b 10) (ltb (s .reader .used) 44)
+  where
+    go : (t u : Bool) → Kept s (cond t (endedOf (s .reader) (s .line) (s .mem) (s .marks))
+        (cond u (fed (keptBy (s .reader)) (keptIn b (s .reader) (s .line)) (s .mem) (s .marks))
+        (endedOf (keptBy (s .reader)) (keptIn b (s .reader) (s .line)) (s .mem) (s .marks))))
+    go true u = ended-kept b s (s .reader) (s .line) h refl refl refl
+    go false true = record { phase = refl; number = refl; fault = refl; mem = refl; marks = refl }
+    go false false = ended-kept b s (keptBy (s .reader)) (keptIn b (s .reader) (s .line)) h refl refl refl
 
--- and a text that fits stands in it from the start, with its length as the next place.
-written-at : (t l : List ℕ) (a : ℕ) → a + length t ≤ 256 → writeOn t (page l a) ≡ page (sets l a t) (a + length t)
-unfolding writeOn
-written-at [] l a h = ap (page l) (sym (add-zero a))
-written-at (b ∷ t) l a h =
-    let e : suc a + length t ≡ a + suc (length t) = omega arith in
-    rw (lt-ltb a 256 (omega arith), add-one a) (written-at t (set l a b) (suc a) (omega arith) ∙ ap (page (sets (set l a b) (suc a) t)) e)
-
-pub written : (t l : List ℕ) → length t ≤ 256 → writeOn t (page l 0) ≡ page (sets l 0 t) (length t)
-written t l h =
-    let e : 0 + length t ≡ length t = omega arith in
-    written-at t l 0 (omega arith) ∙ ap (page (sets l 0 t)) e
-
--- ---- the three calls together
-
--- `start`, any parts, then `answer`, from what their contracts ensure: the room o ends with the whole input's answer at its start, and n is its length.
-pub calls-answer : (ps : List (List ℕ)) (l o out : List ℕ) (n : ℕ) → length l ≡ 45
-    → page out n
-    ≡ writeOn
-    (answerBy (feedAll ps (fed startOf l blank blank) .reader) (feedAll ps (fed startOf l blank blank) .mem) (feedAll ps (fed startOf l blank blank) .marks) .text)
-    (page o 0)
-    → page out n ≡ page (sets o 0 (textOf (joined ps))) (length (textOf (joined ps)))
-calls-answer ps l o out n h e =
-    e
-    ∙ written _ o (fits (feedAll ps (fed startOf l blank blank) .reader) (feedAll ps (fed startOf l blank blank) .mem) (feedAll ps (fed startOf l blank blank) .marks))
-    ∙ ap (λ (t : List ℕ). page (sets o 0 t) (length t)) (answer-is-whole ps l h)
-
--- ---- what `start`, `feed` and `answer` ensure determines their results: two that satisfy it coincide
-
--- the reader, and both rooms at exit
-pub start-determined : (r s : Reader) (m n k l : List ℕ) → (r ≡ startOf) × (m ≡ blank) × (k ≡ blank) → (s ≡ startOf) × (n ≡ blank) × (l ≡ blank)
-    → (r ≡ s) × (m ≡ n) × (k ≡ l)
-start-determined r s m n k l u v = (u .0 ∙ sym (v .0), u .1 ∙ sym (v .1), u .2 ∙ sym (v .2))
-
--- a part, with the reader, line, memory and marks at entry: those at exit
-pub feed-determined : (part : List ℕ) (r : Reader) (line m k : List ℕ) (s q : Reader) (l p n o j i : List ℕ)
-    → fed s l n j ≡ feedOf part (fed r line m k) → fed q p o i ≡ feedOf part (fed r line m k)
-    → (s ≡ q) × (l ≡ p) × (n ≡ o) × (j ≡ i)
-feed-determined part r line m k s q l p n o j i u v =
-    let e : fed s l n j ≡ fed q p o i = u ∙ sym v in
-    (ap (λ (f : Fed). f .reader) e, ap (λ (f : Fed). f .line) e, ap (λ (f : Fed). f .mem) e, ap (λ (f : Fed). f .marks) e)
-
--- the reader, memory, marks and the room for the text at entry: the length, and the room, memory and marks at exit
-pub answer-determined : (r : Reader) (m k out : List ℕ) (a b : ℕ) (o p n l j i : List ℕ)
-    → (page o a ≡ writeOn (answerBy r m k .text) (page out 0)) × (n ≡ answerBy r m k .mem) × (j ≡ answerBy r m k .marks)
-    → (page p b ≡ writeOn (answerBy r m k .text) (page out 0)) × (l ≡ answerBy r m k .mem) × (i ≡ answerBy r m k .marks)
-    → (a ≡ b) × (o ≡ p) × (n ≡ l) × (j ≡ i)
-answer-determined r m k out a b o p n l j i u v =
-    let e : page o a ≡ page p b = u .0 ∙ sym (v .0) in
-    (ap (λ (x : Page). x .at) e, ap (λ (x : Page). x .text) e, u .1 ∙ sym (v .1), u .2 ∙ sym (v .2))
+pub bad-stays : (t : List ℕ) (s : Fed) → s .reader .phase ≡ Phase.Bad → Kept s (feedOf t s)
+unfolding feedOf
+bad-stays [] s h = record { phase = refl; number = refl; fault = refl; mem = refl; marks = refl }
+bad-stays (b ∷ t) s h =
+    let a : Kept s (byteOf b s) = byte-kept b s h in
+    let c : Kept (byteOf b s) (feedOf t (byteOf b s)) = bad-stays t (byteOf b s) (a .phase ∙ h) in
+    record {
+      phase = c .phase ∙ a .phase;
+      number = c .number ∙ a .number;
+      fault = c .fault ∙ a .fault;
+      mem = c .mem ∙ a .mem;
+      marks = c .marks ∙ a .marks;
+    }

@@ -1,4 +1,4 @@
 pub mod Line
+pub mod Fault
 pub mod Reader
-pub mod Answer
-pub mod Whole
+pub mod Statements

@@ -1,9 +1,11 @@
 // Bytes taken one by one, in parts of any size.
 ghost use mathlib.Core.Path.{_≡_};
 ghost use Rattle.script.specs.Line.{blank, nextNumber, numberAfter};
-ghost use Rattle.script.specs.Reader.{fed, startOf, keptBy, keptIn, readerAfter, toldBy, byteOf, feedOf};
+ghost use Rattle.script.specs.Reader.{fed, startOf, keptBy, keptIn, readerAfter, toldBy, faultBy, byteOf, feedOf};
 use crate::Phase;
 use crate::Reader;
+use crate::faults::line_fault;
+use crate::faults::no_fault;
 use crate::lines::whole_line;
 use crate::rooms::clear;
 use crate::rooms::start_part;
@@ -26,16 +28,20 @@ fn number_after(p: Phase, n: u64) -> u64
 }
 
 fn end_line(r: Reader, line: &[u8; 45], m: &mut [u8; 16384], k: &mut [u8; 16384]) -> Reader
-    ensures { λ n. ⌜ n ≡ readerAfter (toldBy r (now (line .entry)) (now (m .entry)) (now (k .entry))) (r .number) ⌝ }
+    ensures { λ n. ⌜ n ≡ readerAfter (toldBy r (now (line .entry)) (now (m .entry)) (now (k .entry))) (r .number) (faultBy r (now (line .entry))) ⌝ }
     ensures { λ _. ⌜ now (m .exit) ≡ toldBy r (now (line .entry)) (now (m .entry)) (now (k .entry)) .mem ⌝ }
     ensures { λ _. ⌜ now (k .exit) ≡ toldBy r (now (line .entry)) (now (m .entry)) (now (k .entry)) .marks ⌝ }
 {
     let before = r.phase;
-    let phase = whole_line(before, start_part(line, r.used), m, k);
+    let kept = r.fault;
+    let l = start_part(line, r.used);
+    let fault = line_fault(before, kept, l);
+    let phase = whole_line(before, l, m, k);
     Reader {
         phase,
         number: number_after(phase, r.number),
         used: 0,
+        fault,
     }
 }
 
@@ -43,14 +49,12 @@ fn keep_byte(r: Reader, b: u8, line: &mut [u8; 45]) -> Reader
     ensures { λ n. ⌜ n ≡ keptBy r ⌝ }
     ensures { λ _. ⌜ now (line .exit) ≡ keptIn b r (now (line .entry)) ⌝ }
 {
-    let phase = r.phase;
     let used = r.used;
     if used < 45 {
         line[used] = b;
         return Reader {
-            phase,
-            number: r.number,
             used: used + 1,
+            ..r
         };
     }
     r
@@ -68,7 +72,11 @@ fn take_byte(
     if b == 10 {
         return end_line(r, line, m, k);
     }
-    keep_byte(r, b, line)
+    let kept = keep_byte(r, b, line);
+    if r.used < 44 {
+        return kept;
+    }
+    end_line(kept, line, m, k)
 }
 
 // Before the first byte: nothing is known, and memory and marks are zero.
@@ -83,6 +91,7 @@ pub fn start(m: &mut [u8; 16384], k: &mut [u8; 16384]) -> Reader
         phase: Phase::First,
         number: 1,
         used: 0,
+        fault: no_fault(),
     }
 }
 

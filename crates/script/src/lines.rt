@@ -40,7 +40,7 @@ fn budget_in(r: Read, n: u32) -> Phase
     }
 }
 
-fn is_even(n: usize) -> bool
+pub fn is_even(n: usize) -> bool
     ensures { λ r. ⌜ r ≡ isEven n ⌝ }
 {
     n % 2 == 0
@@ -78,7 +78,7 @@ fn put_bytes(a: u32, h: &[u8], m: &mut [u8])
     }
 }
 
-fn is_inside(a: u32, c: usize, n: u32) -> bool
+pub fn is_inside(a: u32, c: usize, n: u32) -> bool
     requires { ⌜ c < 9223372036854775808 ⌝ }
     ensures { λ r. ⌜ r ≡ leb (a + c) n ⌝ }
 {

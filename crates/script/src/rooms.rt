@@ -1,6 +1,6 @@
-// Rooms of fixed length, and the start and the end of one.
+// Rooms of fixed length, and the start of one.
 ghost use mathlib.Core.Path.{_≡_};
-ghost use lib.ListN.{take, drop};
+ghost use lib.ListN.{take};
 ghost use Rattle.script.specs.Line.{blank};
 
 pub fn zeros() -> [u8; 16384]
@@ -23,15 +23,4 @@ pub fn start_part(l: &[u8], n: usize) -> &[u8]
         return &l[..n];
     }
     l
-}
-
-// The rest beyond them.
-pub fn end_part(l: &[u8], n: usize) -> &[u8]
-    ensures { λ r. ⌜ now r ≡ drop n (now (l .entry)) ⌝ }
-{
-    if n < l.len() {
-        return &l[n..];
-    }
-    let end = l.len();
-    &l[end..]
 }

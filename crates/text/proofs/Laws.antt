@@ -13,7 +13,7 @@ use borrow.Author.Tests.{lt-ltb, le-ltb, eq-eqb, ne-eqb}
 use lib.Pow.{pow-add, pow-mono}
 use lib.ListN.{length, getD, take, drop, set, length-drop, drop-of-length-le}
 use lib.Seq.{take-all, append-snoc, drop-cons, lt-length-set, getD-set-same, drop-set-lt}
-use Rattle.text.specs.Digits.{valueOf, glyphOf, digitsRead, digitsOf, zerosOf, areHex}
+use Rattle.text.specs.Digits.{valueOf, glyphOf, digitsRead, digitsIn, digitsOf, zerosOf, areHex}
 use Rattle.text.specs.Fields.{tabOf, sameOf}
 use Rattle.text.specs.declared.Read.{Read}
 
@@ -25,6 +25,18 @@ module _ (l : List ℕ) (i : ℕ) (h : i < length l) where
   pub number-on : (b v d : ℕ) → d ≡ valueOf (getD l i 0) → d < b → digitsRead b v (drop i l) ≡ digitsRead b (v * b + d) (drop (i + 1) l)
   unfolding digitsRead
   number-on b v d e k = rw (next, ← e, lt-ltb d b k)
+
+  pub digits-on : (b n d : ℕ) → d ≡ valueOf (getD l i 0) → d < b → i < n → digitsIn b (n - i) (drop i l) ≡ suc (digitsIn b (n - (i + 1)) (drop (i + 1) l))
+  unfolding digitsIn
+  digits-on b n d e k q =
+      let s : n - i ≡ suc (n - (i + 1)) = omega arith in
+      rw (s, next, ← e, lt-ltb d b k)
+
+  pub digits-stop : (b n d : ℕ) → d ≡ valueOf (getD l i 0) → b ≤ d → i < n → digitsIn b (n - i) (drop i l) ≡ 0
+  unfolding digitsIn
+  digits-stop b n d e k q =
+      let s : n - i ≡ suc (n - (i + 1)) = omega arith in
+      rw (s, next, ← e, le-ltb d b k)
 
   pub number-stop : (b v d : ℕ) → d ≡ valueOf (getD l i 0) → b ≤ d → digitsRead b v (drop i l) ≡ Read.Nothing
   unfolding digitsRead
@@ -160,3 +172,21 @@ drop-end l i h = drop-of-length-le l h ∙ sym (drop-of-length-le l {i = i + 1} 
 -- a slice from one place to the end
 pub rest-of : (l : List ℕ) (i : ℕ) → take (length l - i) (drop i l) ≡ drop i l
 rest-of l i = take-all (length l - i) (drop i l) (rw length-drop (omega arith))
+
+-- no digit is left: the bytes, or the first n of them, are used up
+pub digits-most : (b n i : ℕ) (l : List ℕ) → n ≤ i → digitsIn b (n - i) (drop i l) ≡ 0
+unfolding digitsIn
+digits-most b n i l h =
+    let s : n - i ≡ 0 = omega arith in
+    rw s
+
+pub digits-none : (b n i : ℕ) (l : List ℕ) → length l ≤ i → digitsIn b n (drop i l) ≡ 0
+unfolding digitsIn
+digits-none b zero i l h = refl
+digits-none b (suc n) i l h = rw (drop-of-length-le l h)
+
+-- nothing is counted yet
+pub digits-start : (b n : ℕ) (l : List ℕ) → 0 + digitsIn b (n - 0) (drop 0 l) ≡ digitsIn b n l
+digits-start b n l =
+    let s : n - 0 ≡ n = omega arith in
+    rw s (omega arith)

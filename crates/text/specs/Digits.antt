@@ -20,6 +20,12 @@ unfoldable pub digitsRead : ℕ → ℕ → List ℕ → Read
 digitsRead base v [] = Read.Number v
 digitsRead base v (c ∷ l) = cond (ltb (valueOf c) base) (digitsRead base (v * base + valueOf c) l) Read.Nothing
 
+-- how many digits of a base lead, of the first n bytes
+unfoldable pub digitsIn : ℕ → ℕ → List ℕ → ℕ
+digitsIn base zero l = 0
+digitsIn base (suc n) [] = 0
+digitsIn base (suc n) (c ∷ l) = cond (ltb (valueOf c) base) (suc (digitsIn base n l)) 0
+
 -- the last w digits of n in a base, the highest first
 unfoldable pub digitsOf : ℕ → ℕ → ℕ → List ℕ
 digitsOf base zero n = []

@@ -2,8 +2,14 @@
 ghost use mathlib.Core.Path.{_≡_};
 ghost use Prim.Native.Nat.{_≤_, _<_};
 ghost use lib.ListN.{length};
-ghost use Rattle.text.specs.Digits.{valueOf, glyphOf, digitsRead, digitsOf, leadingZero, decimalOf, zerosOf, addressOf, areHex, pairOf, hexText};
+ghost use Rattle.text.specs.Digits.{valueOf, glyphOf, digitsRead, digitsIn, digitsOf, leadingZero, decimalOf, zerosOf, addressOf, areHex, pairOf, hexText};
 ghost use Rattle.text.specs.Fields.{tabOf, beforeOf, beyondOf, sameOf};
+
+mod writing;
+
+pub use writing::put_all;
+pub use writing::put_hex;
+pub use writing::put_number;
 
 // What a field says.
 pub enum Read {
@@ -105,7 +111,24 @@ fn number(base: u32, l: &[u8]) -> Read
     Read::Number(v as u32)
 }
 
-fn has_leading_zero(l: &[u8]) -> bool
+// How far digits of a base reach, among the first `most` bytes.
+pub fn digits_in(base: u32, most: usize, l: &[u8]) -> usize
+    ensures { λ r. ⌜ (r ≡ digitsIn base most (now (l .entry))) × (r ≤ most) ⌝ }
+{
+    let mut i: usize = 0;
+    while i < l.len() {
+        if most <= i {
+            return i;
+        }
+        if base <= value(l[i]) {
+            return i;
+        }
+        i += 1;
+    }
+    i
+}
+
+pub fn has_leading_zero(l: &[u8]) -> bool
     ensures { λ r. ⌜ r ≡ leadingZero (now (l .entry)) ⌝ }
 {
     if 1 < l.len() {

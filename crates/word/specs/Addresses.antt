@@ -1,6 +1,8 @@
 -- "Displacements count halfwords and addresses count bytes" (document 01): two types, joined by the jump sum alone.
 -- Assumes nothing.
-use Prim.Native.Nat.{ℕ, _+_, _*_, _/_}
+use Prim.Native.Nat.{ℕ, _+_, _*_, _/_, _%_}
+use mathlib.Core.Bool.{Bool}
+use lib.Dec.{eqb}
 use Rattle.word.specs.Numbers.{wrap}
 use Rattle.word.specs.Bytes.{bytesOf}
 use Rattle.word.specs.declared.ByteAddr.{ByteAddr}
@@ -18,3 +20,6 @@ byteSum a n = record { 0 = wrap (a .0 + n) }
 -- "Addresses are aligned down to the access size after the sum"
 abbrev pub alignedOf : Width → ByteAddr → ByteAddr
 alignedOf w a = record { 0 = a .0 / bytesOf w * bytesOf w }
+
+abbrev pub isOdd : ByteAddr → Bool
+isOdd a = eqb (a .0 % 2) 1

@@ -1,6 +1,6 @@
 // Addresses and displacements.
 ghost use mathlib.Core.Path.{_≡_};
-ghost use Rattle.word.specs.Addresses.{jumpSum, byteSum, alignedOf};
+ghost use Rattle.word.specs.Addresses.{jumpSum, byteSum, alignedOf, isOdd};
 use crate::ByteAddr;
 use crate::HalfDisp;
 use crate::Width;
@@ -27,4 +27,10 @@ pub fn align(w: Width, at: ByteAddr) -> ByteAddr
         Width::Half => ByteAddr(a / 2 * 2),
         Width::Word => ByteAddr(a / 4 * 4),
     }
+}
+
+pub fn is_odd(at: ByteAddr) -> bool
+    ensures { λ r. ⌜ r ≡ isOdd at ⌝ }
+{
+    at.0 % 2 == 1
 }

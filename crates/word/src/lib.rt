@@ -14,6 +14,7 @@ pub use access::load;
 pub use access::store;
 pub use addresses::align;
 pub use addresses::byte_sum;
+pub use addresses::is_odd;
 pub use addresses::jump_sum;
 pub use arithmetic::add;
 pub use arithmetic::asr;

@@ -1,0 +1,4 @@
+pub mod Laws
+pub mod Whole
+pub mod Fits
+pub mod Theorems
