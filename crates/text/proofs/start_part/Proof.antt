@@ -2,8 +2,8 @@ use lib.Seq.{length-take-le, take-all}
 use native.Mathlib.Omega.{arith}
 use mathlib.Core.Path.{sym}
 use borrow.Author.Needs.{needs}
-use Rattle.script.proofs.rooms.start_part.Statement.{statement}
-use Rattle.script.proofs.rooms.start_part.Tie as tie
+use Rattle.text.proofs.start_part.Statement.{statement}
+use Rattle.text.proofs.start_part.Tie as tie
 
 slice-aggregate-result : tie.Need-slice-aggregate-result
 slice-aggregate-result c = sym (length-take-le _ _ (omega arith))

@@ -1,0 +1,163 @@
+-- The lines of a range: one more, none left, and how long they are.
+-- Assumes nothing.
+use Prim.Native.Nat.{ℕ, zero, suc, _+_, _-_, _*_, _%_, _^_, _<_, _≤_}
+use mathlib.Core.Path.{_≡_, refl, sym, ap, ap₂, subst, _∙_}
+use mathlib.Core.Bool.{Bool, true, false, cond}
+use mathlib.Core.List.{List, [], _∷_, _++_}
+use native.Mathlib.Omega.{arith}
+use lib.Dec.{ltb}
+use lib.ListN.{length, drop, replicate, length-append}
+use lib.Seq.{sets-eq}
+use borrow.Author.Tests.{ltb-true, ltb-false, lt-ltb, le-ltb}
+use Rattle.word.specs.Addresses.{byteSum}
+use Rattle.word.specs.declared.ByteAddr.{ByteAddr}
+use Rattle.text.specs.Pages.{Page, page, writeOn}
+use Rattle.text.proofs.Pages.{write-append, written}
+use Rattle.listing.specs.Listing.{entryAt, sizeOf, lineText, entriesOf, linesText, entriesIn, listingOf}
+use Rattle.listing.specs.Lent.{lineOf}
+use Rattle.listing.specs.declared.Entry.{Entry}
+use Rattle.listing.specs.declared.Line.{Line}
+use Rattle.listing.proofs.Fits.{line-fits}
+
+-- two bytes or four
+pub size-low : (x : Entry) → 2 ≤ sizeOf x
+size-low x = go (x .shown .long)
+  where
+    go : (t : Bool) → 2 ≤ cond t 4 2
+    go true = omega arith
+    go false = omega arith
+
+pub size-high : (x : Entry) → sizeOf x ≤ 4
+size-high x = go (x .shown .long)
+  where
+    go : (t : Bool) → cond t 4 2 ≤ 4
+    go true = omega arith
+    go false = omega arith
+
+abbrev pub from : ℕ → ByteAddr
+from a = record { 0 = a }
+
+-- inside an image no address wraps
+pub after : (a n : ℕ) → a < 65536 → n ≤ 4 → byteSum (from a) n ≡ from (a + n)
+after a n h l =
+    let e : (a + n) % 2 ^ 32 ≡ a + n = omega arith in
+    ap from e
+
+module _ (m : List ℕ) (e : ℕ) (low : e ≤ 65536) where
+  abbrev pub size : ℕ → ℕ
+  size a = sizeOf (entryAt m (from a) e)
+
+  -- as many lines as the range has bytes are enough
+  enough : (n k a : ℕ) → e ≤ a + n → e ≤ a + k → entriesOf n m (from a) e ≡ entriesOf k m (from a) e
+  unfolding entriesOf
+  enough zero zero a h i = refl
+  enough zero (suc k) a h i = rw (le-ltb a e (omega arith))
+  enough (suc n) zero a h i = rw (le-ltb a e (omega arith))
+  enough (suc n) (suc k) a h i = go (ltb a e) refl (enough n k (a + size a))
+    where
+      go : (t : Bool) → ltb a e ≡ t → (e ≤ a + size a + n → e ≤ a + size a + k → entriesOf n m (from (a + size a)) e ≡ entriesOf k m (from (a + size a)) e)
+          → cond t (entryAt m (from a) e ∷ entriesOf n m (byteSum (from a) (size a)) e) [] ≡ cond t (entryAt m (from a) e ∷ entriesOf k m (byteSum (from a) (size a)) e) []
+      go true t f =
+          let l = ltb-true a e t in
+          let z = size-low (entryAt m (from a) e) in
+          rw (after a (size a) (omega arith) (size-high (entryAt m (from a) e)))
+          (ap (λ (r : List Entry). entryAt m (from a) e ∷ r) (f (omega arith) (omega arith)))
+      go false t f = refl
+
+  pub entries-more : (a : ℕ) → a < e → entriesIn m a e ≡ entryAt m (from a) e ∷ entriesIn m (a + size a) e
+  unfolding entriesOf
+  entries-more a h =
+      let f : e - a ≡ suc (e - a - 1) = omega arith in
+      let z = size-low (entryAt m (from a) e) in
+      rw (f, lt-ltb a e h, after a (size a) (omega arith) (size-high (entryAt m (from a) e)))
+      (ap (λ (r : List Entry). entryAt m (from a) e ∷ r) (enough (e - a - 1) (e - (a + size a)) (a + size a) (omega arith) (omega arith)))
+
+  pub listing-more : (a : ℕ) → a < e → listingOf m a e ≡ lineText (entryAt m (from a) e) ++ listingOf m (a + size a) e
+  unfolding linesText
+  listing-more a h = ap linesText (entries-more a h)
+
+  pub entries-none : (a : ℕ) → e ≤ a → entriesIn m a e ≡ []
+  unfolding entriesOf
+  entries-none a h =
+      let f : e - a ≡ 0 = omega arith in
+      rw f
+
+  pub listing-none : (a : ℕ) → e ≤ a → listingOf m a e ≡ []
+  unfolding linesText
+  listing-none a h = ap linesText (entries-none a h)
+
+  -- written on, after the line at a
+  pub more-written : (a : ℕ) (p : Page) → a < e
+      → writeOn (listingOf m a e) p ≡ writeOn (listingOf m (a + size a) e) (writeOn (lineText (entryAt m (from a) e)) p)
+  more-written a p h =
+      ap (λ (l : List ℕ). writeOn l p) (listing-more a h) ∙ write-append (lineText (entryAt m (from a) e)) (listingOf m (a + size a) e) p
+
+  pub none-written : (a : ℕ) (p : Page) → e ≤ a → writeOn (listingOf m a e) p ≡ p
+  unfolding writeOn
+  none-written a p h = ap (λ (l : List ℕ). writeOn l p) (listing-none a h)
+
+  pub more-long : (a : ℕ) → a < e → length (listingOf m a e) ≡ length (lineText (entryAt m (from a) e)) + length (listingOf m (a + size a) e)
+  more-long a h =
+      ap (λ (l : List ℕ). length l) (listing-more a h) ∙ length-append (lineText (entryAt m (from a) e)) (listingOf m (a + size a) e)
+
+  pub none-long : (a : ℕ) → e ≤ a → length (listingOf m a e) ≡ 0
+  none-long a h = ap (λ (l : List ℕ). length l) (listing-none a h)
+
+  -- 48 bytes for each half of the range are enough
+  pub long : (n a : ℕ) → e ≤ a + 2 * n → length (listingOf m a e) ≤ 48 * n
+  long zero a h = rw (none-long a (omega arith)) (omega arith)
+  long (suc n) a h = go (ltb a e) refl (long n (a + size a))
+    where
+      go : (t : Bool) → ltb a e ≡ t → (e ≤ a + size a + 2 * n → length (listingOf m (a + size a) e) ≤ 48 * n) → length (listingOf m a e) ≤ 48 * suc n
+      go true t f =
+          let z = size-low (entryAt m (from a) e) in
+          let l = line-fits m (from a) e in
+          let r = f (omega arith) in
+          rw (more-long a (ltb-true a e t)) (omega arith)
+      go false t f = let l = ltb-false a e t in rw (none-long a l) (omega arith)
+
+-- a text that fits stands at the front of a room
+pub front : (t l : List ℕ) (r : Page) → r ≡ writeOn t (page l 0) → length t ≤ length l → r ≡ page (t ++ drop (length t) l) (length t)
+front t l r e h =
+    let z : 0 + length t ≡ length t = omega arith in
+    let q : 0 + length t ≤ length l = omega arith in
+    e ∙ written t l h ∙ ap (λ (k : List ℕ). page k (length t)) (sets-eq t l 0 q ∙ ap (λ (n : ℕ). t ++ drop n l) z)
+
+-- a step of the loops: the line x at a was written, and r is its size
+module _ (m : List ℕ) (e : ℕ) (low : e ≤ 65536) (a : ℕ) (h : a < e) (x : Entry) (r : ℕ) (ex : x ≡ entryAt m (from a) e) (er : r ≡ sizeOf x) where
+  sized : r ≡ size m e low a
+  sized = er ∙ ap sizeOf ex
+
+  pub step-written : (p q : Page) → q ≡ writeOn (lineText x) p → writeOn (listingOf m (a + r) e) q ≡ writeOn (listingOf m a e) p
+  step-written p q eq =
+      ap₂ (λ (n : ℕ) (z : Page). writeOn (listingOf m (a + n) e) z) sized (eq ∙ ap (λ (y : Entry). writeOn (lineText y) p) ex)
+      ∙ sym (more-written m e low a p h)
+
+  pub step-short : (l : List ℕ) (q : Page) → q ≡ writeOn (lineText x) (page l 0) → length l ≡ 48 → q .at ≤ 48
+  step-short l q eq f =
+      let k : length (lineText x) ≤ 48 = subst (λ (y : Entry). length (lineText y) ≤ 48) (sym ex) (line-fits m (from a) e) in
+      let z : q .at ≡ length (lineText x) = ap (λ (p : Page). p .at) (front (lineText x) l q eq (omega arith)) in
+      omega arith
+
+  pub step-long : (l : List ℕ) (q : Page) → q ≡ writeOn (lineText x) (page l 0) → length l ≡ 48
+      → q .at + length (listingOf m (a + r) e) ≡ length (listingOf m a e)
+  step-long l q eq f =
+      let k : length (lineText x) ≤ 48 = subst (λ (y : Entry). length (lineText y) ≤ 48) (sym ex) (line-fits m (from a) e) in
+      let z : q .at ≡ length (lineText x) = ap (λ (p : Page). p .at) (front (lineText x) l q eq (omega arith)) in
+      ap₂ (λ (n i : ℕ). n + length (listingOf m (a + i) e)) (z ∙ ap (λ (y : Entry). length (lineText y)) ex) sized
+      ∙ sym (more-long m e low a h)
+
+-- one line by value
+pub line-made : (m : List ℕ) (a : ByteAddr) (e : ℕ) (x : Entry) (q : Page) (r : ℕ) (n : ByteAddr) → x ≡ entryAt m a e → r ≡ sizeOf x → n ≡ byteSum a r
+    → q ≡ writeOn (lineText x) (page (replicate 48 0) 0) → _≡_ {A = Line} (record { text = q .text; length = q .at; next = n }) (lineOf m a e)
+unfolding lineOf
+line-made m a e x q r n ex er en eq =
+    let f : q ≡ page (lineText x ++ drop (length (lineText x)) (replicate 48 0)) (length (lineText x))
+    = front (lineText x) (replicate 48 0) q eq (subst (λ (y : Entry). length (lineText y) ≤ 48) (sym ex) (line-fits m a e)) in
+    ap₂ (λ (p : Page) (b : ByteAddr). made p b) f (en ∙ ap (byteSum a) er) ∙ ap value ex
+  where
+    made : Page → ByteAddr → Line
+    made p b = record { text = p .text; length = p .at; next = b }
+
+    value : Entry → Line
+    value y = made (page (lineText y ++ drop (length (lineText y)) (replicate 48 0)) (length (lineText y))) (byteSum a (sizeOf y))
