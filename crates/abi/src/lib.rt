@@ -203,7 +203,13 @@ pub extern "C" fn manik_run(
 
 // The listing of an image's range, from the buffer's first byte on: 0, or the refusal's number.
 #[no_mangle]
-pub extern "C" fn manik_list(image: &[u8], start: usize, end: usize, out: &mut [u8], written: &mut usize) -> u32
+pub extern "C" fn manik_list(
+    image: &[u8],
+    start: usize,
+    end: usize,
+    out: &mut [u8],
+    written: &mut usize,
+) -> u32
     ensures { λ r. ⌜ r ≡ numberOf (listedOf (now (image .entry)) start end (now (out .entry)) .listed) ⌝ }
     ensures { λ _. ⌜ now (written .exit) ≡ lengthOf (listedOf (now (image .entry)) start end (now (out .entry)) .listed) ⌝ }
     ensures { λ _. ⌜ now (out .exit) ≡ listedOf (now (image .entry)) start end (now (out .entry)) .out ⌝ }

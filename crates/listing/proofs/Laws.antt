@@ -40,7 +40,7 @@ hex-digits n =
     let e7 : n / 16777216 / 16 ≡ n / 268435456 = omega arith in
     rw (e2, e3, e4, e5, e6, e7)
 
-half-digits : (n : ℕ) → halfText n ≡ glyphOf (n / 4096 % 16) ∷ glyphOf (n / 256 % 16) ∷ glyphOf (n / 16 % 16) ∷ glyphOf (n % 16) ∷ []
+pub half-digits : (n : ℕ) → halfText n ≡ glyphOf (n / 4096 % 16) ∷ glyphOf (n / 256 % 16) ∷ glyphOf (n / 16 % 16) ∷ glyphOf (n % 16) ∷ []
 unfolding digitsOf
 half-digits n =
     let e2 : n / 16 / 16 ≡ n / 256 = omega arith in

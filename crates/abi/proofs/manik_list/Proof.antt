@@ -18,10 +18,13 @@ same-length c = search needs
 
 returns : tie.Need-returns
 returns c =
-    let listed = c .before .before .before .before .list .ensures in
-    (c .number .ensures ∙ ap (λ (x : Answered). numberOf (x .listed)) listed,
-    (c .before .length .ensures ∙ ap (λ (x : Answered). lengthOf (x .listed)) listed,
-    ap (λ (x : Answered). x .out) listed))
+    let listed = c .before .before .before .before .list .ensures in (
+      c .number .ensures ∙ ap (λ (x : Answered). numberOf (x .listed)) listed,
+      (
+        c .before .length .ensures ∙ ap (λ (x : Answered). lengthOf (x .listed)) listed,
+        ap (λ (x : Answered). x .out) listed,
+      ),
+    )
 
 pub manik-list-spec : {M : Type 1} → statement M
 manik-list-spec =
