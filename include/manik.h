@@ -1,8 +1,9 @@
 /*
  * Pushvratem: a proved reference model of the MANIK core, as a C library.
  *
- * tools/library makes the library, target/staticlib/libabi.a, for x86-64 Linux, and docs/HOSTS.md shows a program with it. It
- * needs nothing but itself: it calls no function, keeps nothing between calls, and reads and writes only what a call lends it.
+ * tools/library makes the library for x86-64 Linux, two archives in target/staticlib: libabi.a has manik_run, and libabi_list.a
+ * has manik_list. docs/HOSTS.md shows programs with it. It needs nothing but itself: it calls no function, keeps nothing between
+ * calls, and reads and writes only what a call lends it.
  * So calls on different buffers may run in different threads at the same time.
  *
  * "The rules" below are document 01's, which docs/MANIK.md restates. What manik_run answers is the definition `called` of

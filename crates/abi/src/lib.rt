@@ -1,4 +1,4 @@
-// The static library: one call runs the machine on a state that lies in a record of 160 bytes, another lists an image. include/manik.h is its C header.
+// The static library: one call runs the machine on a state that lies in a record of 160 bytes. include/manik.h is its C header.
 ghost use mathlib.Core.Path.{_≡_};
 ghost use mathlib.Core.Bool.{_&&_};
 ghost use Prim.Native.Nat.{ℕ, _+_, _*_, _≤_};
@@ -6,7 +6,6 @@ ghost use lib.ListN.{length};
 ghost use lib.Seq.{sets};
 ghost use Rattle.abi.specs.Record.{wordAt, flagAt, each, controlAt, stateAt, words, flags, controlPart, recordIn, within, shaped};
 ghost use Rattle.abi.specs.Call.{called};
-ghost use Rattle.listing.specs.Lent.{numberOf, lengthOf, listedOf};
 use cpu::Control;
 use machine::State;
 use marks::Flags;
@@ -199,22 +198,4 @@ pub extern "C" fn manik_run(
     }
     *steps = 0;
     0
-}
-
-// The listing of an image's range, from the buffer's first byte on: 0, or the refusal's number.
-#[no_mangle]
-pub extern "C" fn manik_list(
-    image: &[u8],
-    start: usize,
-    end: usize,
-    out: &mut [u8],
-    written: &mut usize,
-) -> u32
-    ensures { λ r. ⌜ r ≡ numberOf (listedOf (now (image .entry)) start end (now (out .entry)) .listed) ⌝ }
-    ensures { λ _. ⌜ now (written .exit) ≡ lengthOf (listedOf (now (image .entry)) start end (now (out .entry)) .listed) ⌝ }
-    ensures { λ _. ⌜ now (out .exit) ≡ listedOf (now (image .entry)) start end (now (out .entry)) .out ⌝ }
-{
-    let r = listing::list(image, start, end, out);
-    *written = listing::length(r);
-    listing::number(r)
 }

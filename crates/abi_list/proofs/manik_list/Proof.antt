@@ -1,8 +1,8 @@
 use Rattle.listing.specs.Lent.{Answered, numberOf, lengthOf}
 use mathlib.Core.Path.{ap, _∙_}
 use borrow.Author.Needs.{needs}
-use Rattle.abi.proofs.manik_list.Statement.{statement}
-use Rattle.abi.proofs.manik_list.Tie as tie
+use Rattle.abi_list.proofs.manik_list.Statement.{statement}
+use Rattle.abi_list.proofs.manik_list.Tie as tie
 
 list-requires : tie.Need-list-requires
 list-requires c κs = search needs
