@@ -11,10 +11,15 @@ use lib.Seq.{drop-cons}
 use borrow.Author.Tests.{ltb-true, ltb-false, le-leb}
 use Rattle.word.specs.Addresses.{byteSum}
 use Rattle.word.specs.Bytes.{load}
+use Rattle.word.proofs.Memory.{half-lt}
+use Rattle.isa.specs.Decode.{decodeOf}
+use Rattle.isa.specs.Statements.{named, isLong, sizeOf as isa-size}
+use Rattle.isa.specs.declared.Decoded.{Decoded}
+use Rattle.isa.proofs.Theorems.{size-by-first-half}
 use Rattle.text.specs.Digits.{hexText, halfText}
 use Rattle.text.proofs.Theorems.{pair-reads}
 use Rattle.listing.specs.Names.{nameAt}
-use Rattle.listing.specs.Listing.{operandText, rowText, halfIn, entryAt, sizeOf, secondText, lineText, listingOf}
+use Rattle.listing.specs.Listing.{operandText, rowText, halfIn, cutBy, shownOf, entryAt, sizeOf, secondText, lineText, listingOf}
 use Rattle.listing.specs.declared.Operand.{Operand}
 use Rattle.listing.specs.declared.Row.{Row}
 use Rattle.listing.specs.declared.Entry.{Entry}
@@ -165,9 +170,25 @@ module _ (m : List ℕ) (bytes : Bytes m) where
     abbrev x : ℕ → Entry
     x a = entryAt m (from a) e
 
-    halves-of : (a : ℕ) → (x a .first ≡ halfIn m (from a)) × (x a .second ≡ halfIn m (byteSum (from a) 2))
+    first-of : (a : ℕ) → x a .first ≡ halfIn m (from a)
     unfolding entryAt
-    halves-of a = (refl, refl)
+    first-of a = refl
+
+    -- a line of four bytes has a first half that says so
+    long-kind : (h s a : ℕ) (d : Decoded) → h < 65536 → d ≡ decodeOf h s → shownOf (from a) h (cutBy e (from a) d) .long ≡ true → isLong (h / 256) ≡ true
+    unfolding shownOf
+    long-kind h s a (Decoded.Short i) k q t = let z : _≡_ {A = ℕ} 0 1 = cc in absurd (omega arith)
+    long-kind h s a (Decoded.Long i) k q t = go (named h) (isLong (h / 256)) (sym (size-by-first-half h s k) ∙ sym (ap isa-size q))
+      where
+        go : (u v : Bool) → _≡_ {A = ℕ} (cond u (cond v 4 2) 0) 4 → v ≡ true
+        go true true f = refl
+        go true false f = absurd (omega arith)
+        go false v f = absurd (omega arith)
+    long-kind h s a Decoded.Nothing k q t = let z : _≡_ {A = ℕ} 0 1 = cc in absurd (omega arith)
+
+    second-of : (a : ℕ) → x a .shown .long ≡ true → x a .second ≡ halfIn m (byteSum (from a) 2)
+    unfolding entryAt
+    second-of a t = rw (long-kind (halfIn m (from a)) _ a _ (half-lt m (from a) bytes) refl t)
 
     -- the bits of the line at a are its bytes
     line-bytes : (a n : ℕ) (l : List ℕ) → a + 2 ≤ e → sizeOf (x a) + n ≡ e - a
@@ -182,7 +203,7 @@ module _ (m : List ℕ) (bytes : Bytes m) where
             let j : a + 2 + 2 ≡ a + 4 = omega arith in
             let o : byteSum (from a) 2 ≡ from (a + 2) = after a 2 (omega arith) (omega arith) in
             ap bytesRead (append-assoc (halfText (x a .first)) (halfText (x a .second)) l)
-            ∙ ap₂ (λ (h s : ℕ). bytesRead (halfText h ++ (halfText s ++ l))) (halves-of a .0) (halves-of a .1 ∙ ap (halfIn m) o)
+            ∙ ap₂ (λ (h s : ℕ). bytesRead (halfText h ++ (halfText s ++ l))) (first-of a) (second-of a t ∙ ap (halfIn m) o)
             ∙ two-bytes a (halfText (halfIn m (from (a + 2))) ++ l) (omega arith)
             ∙ ap (λ (w : List ℕ). getD m a 0 ∷ getD m (a + 1) 0 ∷ w)
             (two-bytes (a + 2) l (omega arith) ∙ ap (λ (w : List ℕ). getD m (a + 2) 0 ∷ getD m (a + 2 + 1) 0 ∷ w) (r ∙ ap (λ (w : ℕ). take n (drop w m)) (sym j))
@@ -192,7 +213,7 @@ module _ (m : List ℕ) (bytes : Bytes m) where
         go false t q r =
             let b : suc (suc n) ≡ e - a = omega arith in
             ap bytesRead (append-assoc (halfText (x a .first)) [] l)
-            ∙ ap (λ (h : ℕ). bytesRead (halfText h ++ l)) (halves-of a .0)
+            ∙ ap (λ (h : ℕ). bytesRead (halfText h ++ l)) (first-of a)
             ∙ two-bytes a l (omega arith)
             ∙ ap (λ (w : List ℕ). getD m a 0 ∷ getD m (a + 1) 0 ∷ w) r
             ∙ sym (next-two a n (omega arith))

@@ -7,10 +7,9 @@ use mathlib.Core.List.{List}
 use native.Mathlib.Omega.{arith}
 use lib.Dec.{ltb, leb}
 use borrow.Author.Tests.{ltb-true, ltb-false, leb-true}
-use Rattle.word.specs.Addresses.{byteSum}
 use Rattle.isa.specs.Decode.{decodeOf}
 use Rattle.isa.specs.declared.Decoded.{Decoded}
-use Rattle.listing.specs.Listing.{halfIn, cutBy, shownOf, entryAt, sizeOf, entriesIn}
+use Rattle.listing.specs.Listing.{halfIn, secondIn, cutBy, shownOf, entryAt, sizeOf, entriesIn}
 use Rattle.listing.specs.declared.Entry.{Entry}
 use Rattle.listing.proofs.Ranged.{from, entries-more, entries-none, size-low}
 use Rattle.columns.specs.Columns.{Cover}
@@ -32,7 +31,7 @@ cut-inside e a h Decoded.Nothing k t = let z : _≡_ {A = ℕ} 0 1 = cc in absur
 
 pub long-inside : (m : List ℕ) (e a : ℕ) → a + 2 ≤ e → entryAt m (from a) e .shown .long ≡ true → a + 4 ≤ e
 unfolding entryAt
-long-inside m e a k t = cut-inside e a (halfIn m (from a)) (decodeOf (halfIn m (from a)) (halfIn m (byteSum (from a) 2))) k t
+long-inside m e a k t = cut-inside e a (halfIn m (from a)) (decodeOf (halfIn m (from a)) (secondIn m (from a) (halfIn m (from a)))) k t
 
 pub size-inside : (m : List ℕ) (e a : ℕ) → a + 2 ≤ e → a + sizeOf (entryAt m (from a) e) ≤ e
 size-inside m e a k = go (entryAt m (from a) e .shown .long) refl

@@ -15,15 +15,16 @@ use Rattle.word.specs.declared.ByteAddr.{ByteAddr}
 use Rattle.word.proofs.Memory.{half-lt}
 use Rattle.isa.specs.Codes.{kindOf}
 use Rattle.isa.specs.Decode.{operandsOf, decodeOf}
-use Rattle.isa.specs.Statements.{sizeOf}
+use Rattle.isa.specs.Statements.{sizeOf, isLong}
 use Rattle.text.specs.Words.{ascii}
 use Rattle.text.specs.Digits.{hexText, digitsOf, glyphOf, zerosOf, signedText}
 use Rattle.listing.specs.Names.{names, placeOf, lettersIn, nameAt}
-use Rattle.listing.specs.Listing.{rowOf, operandText, rowText, halfIn, shownOf, entryAt, entriesOf, entriesIn, lineText, linesText, listingOf}
+use Rattle.listing.specs.Listing.{rowOf, operandText, rowText, halfIn, secondIn, shownOf, entryAt, entriesOf, entriesIn, lineText, linesText, listingOf}
 use Rattle.listing.specs.Lent.{isOutOf, lengthOf, Answered, answered, listedOf}
 use Rattle.listing.specs.declared.Entry.{Entry}
 use Rattle.listing.specs.declared.Listed.{Listed}
-use Rattle.listing.proofs.Lent.{Good, good, roomy}
+use Rattle.listing.specs.Parts.{Good}
+use Rattle.listing.proofs.Lent.{good, roomy}
 use Rattle.columns.specs.Columns.{Bytes, columnOf, joined, bitsText, bytesRead, Cover, saidAt, foundAt}
 use Rattle.columns.proofs.Bits.{bits-from, address-column, bits-column, name-column}
 use Rattle.columns.proofs.Cover.{covered}
@@ -68,9 +69,27 @@ module _ (m n : List ℕ) (a : ByteAddr) (e f : ℕ) (bytes : Bytes m) (others :
   same : saidAt m a e ≡ saidAt n a f → (foundAt m a e ≡ foundAt n a f) × (bitsText (entryAt m a e) ≡ bitsText (entryAt n a f))
   unfolding entryAt
   same q =
-      agree a (halfIn m a) (halfIn m (byteSum a 2)) (halfIn n a) (halfIn n (byteSum a 2))
-      (half-lt m a bytes) (half-lt m (byteSum a 2) bytes) (half-lt n a others) (half-lt n (byteSum a 2) others)
-      (foundAt m a e) (foundAt n a f) (shows e a (halfIn m a) (halfIn m (byteSum a 2))) (shows f a (halfIn n a) (halfIn n (byteSum a 2))) q
+      agree a h s g t (half-lt m a bytes) (second-lt m bytes) (half-lt n a others) (second-lt n others)
+      (foundAt m a e) (foundAt n a f) (shows e a h s) (shows f a g t) q
+    where
+      h : ℕ
+      h = halfIn m a
+
+      s : ℕ
+      s = secondIn m a h
+
+      g : ℕ
+      g = halfIn n a
+
+      t : ℕ
+      t = secondIn n a g
+
+      second-lt : (k : List ℕ) → Bytes k → secondIn k a (halfIn k a) < 65536
+      second-lt k b = go (isLong (halfIn k a / 256))
+        where
+          go : (u : Bool) → cond u (halfIn k (byteSum a 2)) 0 < 65536
+          go true = half-lt k (byteSum a 2) b
+          go false = omega arith
 
   pub says-the-instruction : saidAt m a e ≡ saidAt n a f → foundAt m a e ≡ foundAt n a f
   says-the-instruction q = same q .0
@@ -102,7 +121,7 @@ module _ (m : List ℕ) (s e : ℕ) (l : List ℕ) where
   pub room-enough : isOutOf (length m) s e ≡ false → (e - s) * 24 ≤ length l
       → listedOf m s e l ≡ answered (Listed.Done (length (listingOf m s e))) (listingOf m s e ++ drop (length (listingOf m s e)) l)
   unfolding listedOf
-  room-enough ok h = rw (ok, le-ltb (length l) (length (listingOf m s e)) (roomy m l s e (good (length m) s e ok) h))
+  room-enough ok h = rw (ok, le-ltb (length l) (length (listingOf m s e)) (roomy m s e (length l) (good (length m) s e ok) h))
 
 -- 7. An example: an instruction, one cut by the end, and two bytes that are none.
 pub an-example : listingOf (0x21 ∷ 0x2f ∷ 0xe3 ∷ 0xff ∷ 0xff ∷ 0xfe ∷ 0xfc ∷ 0x00 ∷ 0xe3 ∷ 0xff ∷ []) 0 10

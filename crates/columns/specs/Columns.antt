@@ -6,14 +6,13 @@ use mathlib.Core.Bool.{cond}
 use mathlib.Core.List.{List, [], _∷_, _++_}
 use lib.Dec.{eqb}
 use lib.ListN.{getD}
-use Rattle.word.specs.Addresses.{byteSum}
 use Rattle.word.specs.declared.ByteAddr.{ByteAddr}
 use Rattle.isa.specs.Decode.{decodeOf}
 use Rattle.isa.specs.declared.Decoded.{Decoded}
 use Rattle.text.specs.Digits.{halfText, pairOf}
 use Rattle.text.specs.Fields.{sameOf}
 use Rattle.listing.specs.Names.{nameAt}
-use Rattle.listing.specs.Listing.{rowText, halfIn, cutBy, entryAt, sizeOf, secondText}
+use Rattle.listing.specs.Listing.{rowText, halfIn, secondIn, cutBy, entryAt, sizeOf, secondText}
 use Rattle.listing.specs.declared.Entry.{Entry}
 
 -- a memory of bytes
@@ -54,7 +53,7 @@ saidAt m a e = nameAt (entryAt m a e .shown .place) ++ rowText (entryAt m a e .s
 
 -- the instruction there, or none: no instruction, or cut by the end
 abbrev pub foundAt : List ℕ → ByteAddr → ℕ → Decoded
-foundAt m a e = cutBy e a (decodeOf (halfIn m a) (halfIn m (byteSum a 2)))
+foundAt m a e = cutBy e a (decodeOf (halfIn m a) (secondIn m a (halfIn m a)))
 
 -- the place of a mnemonic: the first of the last n places that has this name; 82 if none has
 unfoldable pub placeIn : ℕ → List ℕ → ℕ

@@ -9,7 +9,6 @@ use lib.Dec.{ltb, leb, eqb}
 use lib.ListN.{length, drop, length-append}
 use borrow.Author.Tests.{ltb-true, ltb-false}
 use Rattle.word.specs.Numbers.{signedOf, extendOf, wrap}
-use Rattle.word.specs.Addresses.{byteSum}
 use Rattle.word.specs.declared.ByteAddr.{ByteAddr}
 use Rattle.word.specs.declared.Width.{Width}
 use Rattle.isa.specs.Codes.{kindOf}
@@ -22,7 +21,7 @@ use Rattle.cpu.specs.Exec.{dataAddress}
 use Rattle.text.specs.Digits.{hexText, halfText, decimalText, signedText}
 use Rattle.text.proofs.Theorems.{digits-length, decimal-length}
 use Rattle.listing.specs.Names.{names, nameAt, lettersIn}
-use Rattle.listing.specs.Listing.{rowOf, operandText, rowText, cutBy, shownOf, halfIn, entryAt, secondText, lineText}
+use Rattle.listing.specs.Listing.{rowOf, operandText, rowText, cutBy, shownOf, halfIn, secondIn, entryAt, secondText, lineText}
 use Rattle.listing.specs.declared.Operand.{Operand}
 use Rattle.listing.specs.declared.Row.{Row}
 use Rattle.listing.specs.declared.Entry.{Entry}
@@ -192,4 +191,4 @@ line-fits m a e =
     h = halfIn m a
 
     s : ℕ
-    s = halfIn m (byteSum a 2)
+    s = secondIn m a h

@@ -12,9 +12,10 @@ use borrow.Author.Tests.{ltb-true, ltb-false, lt-ltb, le-ltb}
 use Rattle.word.specs.Addresses.{byteSum}
 use Rattle.word.specs.declared.ByteAddr.{ByteAddr}
 use Rattle.text.specs.Pages.{Page, page, writeOn}
-use Rattle.text.proofs.Pages.{write-append, written}
+use Rattle.text.proofs.Pages.{write-append, written, written-at}
 use Rattle.listing.specs.Listing.{entryAt, sizeOf, lineText, entriesOf, linesText, entriesIn, listingOf}
 use Rattle.listing.specs.Lent.{lineOf}
+use Rattle.listing.specs.Parts.{Kept}
 use Rattle.listing.specs.declared.Entry.{Entry}
 use Rattle.listing.specs.declared.Line.{Line}
 use Rattle.listing.proofs.Fits.{line-fits}
@@ -123,29 +124,58 @@ front t l r e h =
     let q : 0 + length t ≤ length l = omega arith in
     e ∙ written t l h ∙ ap (λ (k : List ℕ). page k (length t)) (sets-eq t l 0 q ∙ ap (λ (n : ℕ). t ++ drop n l) z)
 
--- a step of the loops: the line x at a was written, and r is its size
+-- a place that is kept
+kept-place : (keep : Bool) (to after : ℕ) → keep ≡ true → to ≡ cond keep after 0 → to ≡ after
+kept-place true to after k e = e
+kept-place false to after k e = let z : _≡_ {A = ℕ} 0 1 = cc in absurd (omega arith)
+
+-- a step of the loop: the line x at a was written at `to`, and r is its size
 module _ (m : List ℕ) (e : ℕ) (low : e ≤ 65536) (a : ℕ) (h : a < e) (x : Entry) (r : ℕ) (ex : x ≡ entryAt m (from a) e) (er : r ≡ sizeOf x) where
   sized : r ≡ size m e low a
   sized = er ∙ ap sizeOf ex
 
-  pub step-written : (p q : Page) → q ≡ writeOn (lineText x) p → writeOn (listingOf m (a + r) e) q ≡ writeOn (listingOf m a e) p
+  same-line : length (lineText x) ≡ length (lineText (entryAt m (from a) e))
+  same-line = ap (λ (y : Entry). length (lineText y)) ex
+
+  pub step-short : length (lineText x) ≤ 48
+  step-short = let l = line-fits m (from a) e in let q = same-line in omega arith
+
+  pub step-long : length (lineText x) + length (listingOf m (a + r) e) ≡ length (listingOf m a e)
+  step-long =
+      ap₂ (λ (n i : ℕ). n + length (listingOf m (a + i) e)) same-line sized ∙ sym (more-long m e low a h)
+
+  step-written : (p q : Page) → q ≡ writeOn (lineText x) p → writeOn (listingOf m (a + r) e) q ≡ writeOn (listingOf m a e) p
   step-written p q eq =
       ap₂ (λ (n : ℕ) (z : Page). writeOn (listingOf m (a + n) e) z) sized (eq ∙ ap (λ (y : Entry). writeOn (lineText y) p) ex)
       ∙ sym (more-written m e low a p h)
 
-  pub step-short : (l : List ℕ) (q : Page) → q ≡ writeOn (lineText x) (page l 0) → length l ≡ 48 → q .at ≤ 48
-  step-short l q eq f =
-      let k : length (lineText x) ≤ 48 = subst (λ (y : Entry). length (lineText y) ≤ 48) (sym ex) (line-fits m (from a) e) in
-      let z : q .at ≡ length (lineText x) = ap (λ (p : Page). p .at) (front (lineText x) l q eq (omega arith)) in
-      omega arith
+  -- the next place is after it, where lines are kept
+  pub step-kept : (l out : List ℕ) (to after next : ℕ) (keep : Bool) (w : Page) → page out after ≡ writeOn (lineText x) (page l to) → next ≡ cond keep after 0
+      → (keep ≡ true → writeOn (listingOf m a e) (page l to) ≡ w) → keep ≡ true → writeOn (listingOf m (a + r) e) (page out next) ≡ w
+  step-kept l out to after next keep w eq en f k =
+      ap (λ (n : ℕ). writeOn (listingOf m (a + r) e) (page out n)) (kept-place keep next after k en) ∙ step-written (page l to) (page out after) eq ∙ f k
 
-  pub step-long : (l : List ℕ) (q : Page) → q ≡ writeOn (lineText x) (page l 0) → length l ≡ 48
-      → q .at + length (listingOf m (a + r) e) ≡ length (listingOf m a e)
-  step-long l q eq f =
-      let k : length (lineText x) ≤ 48 = subst (λ (y : Entry). length (lineText y) ≤ 48) (sym ex) (line-fits m (from a) e) in
-      let z : q .at ≡ length (lineText x) = ap (λ (p : Page). p .at) (front (lineText x) l q eq (omega arith)) in
-      ap₂ (λ (n i : ℕ). n + length (listingOf m (a + i) e)) (z ∙ ap (λ (y : Entry). length (lineText y)) ex) sized
-      ∙ sym (more-long m e low a h)
+  -- it fits: t bytes came before it, and lines are kept or not
+  pub step-fits : (keep : Bool) (t n s : ℕ) → t + length (listingOf m a e) ≡ length (listingOf m s e) → cond keep (length (listingOf m s e)) 48 ≤ n
+      → cond keep t 0 + length (lineText x) ≤ n
+  step-fits true t n s et l = let q = step-long in omega arith
+  step-fits false t n s et l = let q = step-short in omega arith
+
+-- where a text that fits ends
+pub place-is : (t l : List ℕ) (to : ℕ) (q : Page) → q ≡ writeOn t (page l to) → to + length t ≤ length l → q .at ≡ to + length t
+place-is t l to q eq f = ap (λ (p : Page). p .at) (eq ∙ written-at t l to f)
+
+-- the next place, where lines are kept or not
+pub next-place : (keep : Bool) (t to after : ℕ) → to ≡ cond keep t 0 → to ≤ after → cond keep after 0 ≡ cond keep (t + (after - to)) 0
+next-place true t to after e h = omega arith
+next-place false t to after e h = refl
+
+-- and what stands at the end
+pub kept-front : (m out l : List ℕ) (s e a to : ℕ) (keep : Bool) → e ≤ 65536 → e ≤ a → keep ≡ true → cond keep (length (listingOf m s e)) 48 ≤ length l
+    → writeOn (listingOf m a e) (page out to) ≡ writeOn (listingOf m s e) (page l 0) → Kept out (listingOf m s e) l
+kept-front m out l s e a to true low past k f q =
+    ap (λ (p : Page). p .text) (front (listingOf m s e) l (page out to) (sym (none-written m e low a (page out to) past) ∙ q) f)
+kept-front m out l s e a to false low past k f q = let z : _≡_ {A = ℕ} 0 1 = cc in absurd (omega arith)
 
 -- one line by value
 pub line-made : (m : List ℕ) (a : ByteAddr) (e : ℕ) (x : Entry) (q : Page) (r : ℕ) (n : ByteAddr) → x ≡ entryAt m a e → r ≡ sizeOf x → n ≡ byteSum a r

@@ -11,6 +11,7 @@ use Rattle.word.specs.Bytes.{bytesOf, loadOf}
 use Rattle.word.specs.declared.ByteAddr.{ByteAddr}
 use Rattle.word.specs.declared.Width.{Width}
 use Rattle.isa.specs.Decode.{decodeOf}
+use Rattle.isa.specs.Statements.{isLong}
 use Rattle.isa.specs.declared.Instr.{Instr}
 use Rattle.isa.specs.declared.Decoded.{Decoded}
 use Rattle.cpu.specs.Exec.{dataAddress}
@@ -77,14 +78,18 @@ shownOf a h Decoded.Nothing = record { long = false; place = halfPlace; row = Ro
 abbrev pub halfIn : List ℕ → ByteAddr → ℕ
 halfIn m a = loadOf Width.Half m a
 
+-- the half after h, which only an instruction of four bytes has
+abbrev pub secondIn : List ℕ → ByteAddr → ℕ → ℕ
+secondIn m a h = cond (isLong (h / 256)) (halfIn m (byteSum a 2)) 0
+
 -- what stands at a in a range that ends at e
 unfoldable pub entryAt : List ℕ → ByteAddr → ℕ → Entry
 entryAt m a e =
     record {
       at = a;
       first = halfIn m a;
-      second = halfIn m (byteSum a 2);
-      shown = shownOf a (halfIn m a) (cutBy e a (decodeOf (halfIn m a) (halfIn m (byteSum a 2))));
+      second = secondIn m a (halfIn m a);
+      shown = shownOf a (halfIn m a) (cutBy e a (decodeOf (halfIn m a) (secondIn m a (halfIn m a))));
     }
 
 abbrev pub sizeOf : Entry → ℕ

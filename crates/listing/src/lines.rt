@@ -1,12 +1,13 @@
 // One line: what stands at an address, and its text.
 ghost use mathlib.Core.Path.{_≡_};
-ghost use Prim.Native.Nat.{_≤_};
+ghost use Prim.Native.Nat.{_/_, _≤_};
 ghost use mathlib.Core.Bool.{cond};
 ghost use mathlib.Core.List.{_++_};
 ghost use Rattle.text.specs.Digits.{glyphs, hexText, halfText};
 ghost use Rattle.text.specs.Pages.{page, writeOn};
+ghost use Rattle.isa.specs.Statements.{isLong};
 ghost use Rattle.listing.specs.Names.{names};
-ghost use Rattle.listing.specs.Listing.{cutBy, shownOf, halfIn, entryAt, tab, secondText, lineText};
+ghost use Rattle.listing.specs.Listing.{cutBy, shownOf, halfIn, secondIn, entryAt, tab, secondText, lineText};
 ghost use Rattle.listing.specs.Lent.{lineOf};
 use crate::Entry;
 use crate::Line;
@@ -26,6 +27,26 @@ fn half_in(image: &[u8], at: ByteAddr) -> u16
     ensures { λ r. ⌜ r ≡ halfIn (now (image .entry)) at ⌝ }
 {
     word::load(Width::Half, image, at) as u16
+}
+
+fn is_long(first: u16) -> bool
+    ensures { λ r. ⌜ r ≡ isLong (first / 256) ⌝ }
+{
+    let n = first / 256;
+    if 224 <= n {
+        return n / 4 % 2 == 0;
+    }
+    false
+}
+
+// The second half, where the first says that there is one.
+fn second_in(image: &[u8], at: ByteAddr, first: u16) -> u16
+    ensures { λ r. ⌜ r ≡ secondIn (now (image .entry)) at first ⌝ }
+{
+    if is_long(first) {
+        return half_in(image, word::byte_sum(at, 2));
+    }
+    0
 }
 
 fn cut(end: usize, at: ByteAddr, d: Decoded) -> Decoded
@@ -71,7 +92,7 @@ pub fn entry_at(image: &[u8], at: ByteAddr, end: usize) -> Entry
     ensures { λ r. ⌜ r ≡ entryAt (now (image .entry)) at end ⌝ }
 {
     let first = half_in(image, at);
-    let second = half_in(image, word::byte_sum(at, 2));
+    let second = second_in(image, at, first);
     let d = cut(end, at, isa::decode(first, second));
     Entry {
         at,

@@ -6,11 +6,8 @@ use Rattle.listing.proofs.lines.entry_at.Tie as tie
 half-in-requires : tie.Need-half-in-requires
 half-in-requires c κs = search needs
 
-byte-sum-requires : tie.Need-byte-sum-requires
-byte-sum-requires c κs = search needs
-
-half-in-requires-2 : tie.Need-half-in-requires-2
-half-in-requires-2 c κs = search needs
+second-in-requires : tie.Need-second-in-requires
+second-in-requires c κs = search needs
 
 decode-requires : tie.Need-decode-requires
 decode-requires c κs = search needs
@@ -23,15 +20,14 @@ shown-requires c κs = search needs
 
 returns : tie.Need-returns
 unfolding entryAt
-returns c = rw (c .shown .ensures, c .before .cut .ensures, c .before .before .decode .ensures, c .before .before .before .half-in2 .ensures, c .before .before .before .before .byte-sum .ensures, c .before .before .before .before .before .half-in .ensures)
+returns c = rw (c .shown .ensures, c .before .cut .ensures, c .before .before .decode .ensures, c .before .before .before .second-in .ensures, c .before .before .before .before .half-in .ensures)
 
 pub entry-at-spec : {M : Type 1} → statement M
 entry-at-spec =
     tie.close
     (tie.spec
     half-in-requires
-    byte-sum-requires
-    half-in-requires-2
+    second-in-requires
     decode-requires
     cut-requires
     shown-requires
