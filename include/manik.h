@@ -1,12 +1,14 @@
 /*
  * Pushvratem: a proved reference model of the MANIK core, as a C library.
  *
- * tools/library makes the library, target/staticlib/libabi.a, for x86-64 Linux, and docs/HOSTS.md shows a program with it. It
- * needs nothing but itself: it calls no function, keeps nothing between calls, and reads and writes only what a call lends it.
+ * tools/library makes the library for x86-64 Linux, two archives in target/staticlib: libabi.a has manik_run, and libabi_list.a
+ * has manik_list. docs/HOSTS.md shows programs with it. It needs nothing but itself: it calls no function, keeps nothing between
+ * calls, and reads and writes only what a call lends it.
  * So calls on different buffers may run in different threads at the same time.
  *
  * "The rules" below are document 01's, which docs/MANIK.md restates. What manik_run answers is the definition `called` of
- * crates/abi/specs/Call.antt; the function is proved equal to it for every input.
+ * crates/abi/specs/Call.antt, and what manik_list answers is `listedOf` of crates/listing/specs/Lent.antt; each function is
+ * proved equal to its definition for every input.
  */
 #ifndef MANIK_H
 #define MANIK_H
@@ -78,6 +80,42 @@ uint32_t manik_run(uint8_t *state, size_t state_len,
                    uint8_t *marks, size_t marks_len,
                    const uint8_t *tape, size_t tape_len,
                    uint64_t budget, uint64_t *steps);
+
+/* A buffer of this length has room for the listing of a range of so many bytes, whatever they are. */
+#define MANIK_LISTING_ROOM(bytes) (24 * (bytes))
+
+/* What manik_list returns: 0, and document 02's refusal numbers. */
+enum manik_listed {
+    MANIK_LISTED = 0,  /* the listing is written */
+    MANIK_RANGE = 20,  /* the image is over 65,536 bytes, or the range is outside it, odd or reversed */
+    MANIK_NO_ROOM = 21 /* the listing is longer than the buffer */
+};
+
+/*
+ * Lists an image: a line for each instruction from the address `start` to before `end`, in the written form of docs/MANIK.md.
+ *
+ *   image    the memory image; its address 0 is image[0]
+ *   start    the address of the first line; even
+ *   end      where the range ends: even, not below `start`, and not above the image's length
+ *   out      takes the listing
+ *   written  takes its length; no zero byte stands behind it
+ *
+ * Returns one of enum manik_listed.
+ *
+ *   0         *written bytes, from out[0] on, are the listing, and no other byte of the buffer changes.
+ *   20        the range cannot be listed. *written is 0, and the buffer does not change.
+ *   21        the range can be listed, but the buffer is too short. *written is 0, and the buffer does not change.
+ *
+ * A buffer of MANIK_LISTING_ROOM(end - start) bytes never gets a 21, and the image is gone through once. With a shorter one it
+ * is gone through twice, first for the listing's length.
+ *
+ * The caller sees to what no contract can say in C: both buffers are valid for their lengths and no pointer is null, even where
+ * the length is 0; `written` is aligned; out and *written overlap neither each other nor the image.
+ */
+uint32_t manik_list(const uint8_t *image, size_t image_len,
+                    size_t start, size_t end,
+                    uint8_t *out, size_t out_len,
+                    size_t *written);
 
 #ifdef __cplusplus
 }

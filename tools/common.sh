@@ -66,3 +66,15 @@ make_proved() {
     (cd "$root" && rt "${@:2}" < /dev/null >&2) || fail "rt ${*:2} failed"
     echo "$sources $(sha256sum < "$file")" > "$file.made"
 }
+
+# run_program PROGRAM WORDS: runs a program of the kit, which is for x86-64. On another processor the kit's emulator runs it, with the
+# kit's loader and C library.
+run_program() {
+    local toolchain
+    if [ "$(uname -m)" = x86_64 ]; then
+        "$@"
+    else
+        toolchain=$(kit)/on/$(uname -m)/toolchain
+        "$toolchain/bin/qemu-x86_64" "$toolchain/lib/ld-linux-x86-64.so.2" --library-path "$toolchain/lib" "$@"
+    fi
+}

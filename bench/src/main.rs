@@ -1,51 +1,43 @@
-//! Steps per second of the static library and of the second program, in one process.
+//! Steps and lines per second of the static library and of the second program, in one process.
 
 mod images;
+mod listings;
 mod machine;
+mod tables;
+mod timing;
 
 use std::env;
 use std::process::ExitCode;
-use std::time::{Duration, Instant};
 
-use images::{Image, IMAGES, SIZES};
-use machine::{Library, Machine, Second, CALL};
+use images::{IMAGES, SIZES};
+use listings::{listings, Buffer, Lister};
+use machine::{Library, Machine, Second};
 
 const USAGE: &str =
-    "usage: bench time                              writes the table of steps per second
-       bench list                              writes the number and the name of each image
+    "usage: bench time                              writes the tables of steps and lines per second
+       bench images                            writes the number and the name of each image
        bench steps NUMBER SIZE PROGRAM BUDGET  makes one run, PROGRAM is library or second
+       bench listings                          writes a line for each listing that is counted:
+                                               NUMBER RANGE BUFFER, its lines, and its name
+       bench lines NUMBER RANGE BUFFER PROGRAM TIMES    lists so many times
 ";
 
-const HEAD: &str = "\
-| Image | Memory | Library, million steps a second | Second program | Ratio \
-| Library over 24 MHz | Second program over 24 MHz |
-|---|---|---|---|---|---|---|
-";
-
-/// Rounds of an image; the median counts.
-const ROUNDS: usize = 9;
-
-/// How long the library's part of a round lasts, about.
-const ROUND: Duration = Duration::from_millis(300);
-
-/// The board's clock.
-const BOARD: f64 = 24e6;
+/// The ranges and buffers of the listings that are counted. An emulator writes a line of its log
+/// for each instruction, so they are short.
+const COUNTED: [(usize, Buffer); 3] =
+    [(4_096, Buffer::Roomy), (16_384, Buffer::Roomy), (16_384, Buffer::Exact)];
 
 fn main() -> ExitCode {
     let arguments: Vec<String> = env::args().skip(1).collect();
     let arguments: Vec<&str> = arguments.iter().map(String::as_str).collect();
     let done = match arguments[..] {
-        ["time"] => {
-            time();
-            Some(())
-        }
-        ["list"] => {
-            for (number, image) in IMAGES.iter().enumerate() {
-                println!("{number}\t{}", image(SIZES[0]).name);
-            }
-            Some(())
-        }
+        ["time"] => time(),
+        ["images"] => name_images(),
         ["steps", number, size, program, budget] => steps(number, size, program, budget),
+        ["listings"] => name_listings(),
+        ["lines", number, range, buffer, program, times] => {
+            lines([number, range, buffer, program, times])
+        }
         _ => None,
     };
     if done.is_none() {
@@ -53,6 +45,20 @@ fn main() -> ExitCode {
         return ExitCode::from(2);
     }
     ExitCode::SUCCESS
+}
+
+fn time() -> Option<()> {
+    tables::steps();
+    println!();
+    tables::listing();
+    Some(())
+}
+
+fn name_images() -> Option<()> {
+    for (number, image) in IMAGES.iter().enumerate() {
+        println!("{number}\t{}", image(SIZES[0]).name);
+    }
+    Some(())
 }
 
 /// Makes one run; none if the arguments are wrong.
@@ -68,65 +74,30 @@ fn steps(number: &str, size: &str, program: &str, budget: &str) -> Option<()> {
     Some(())
 }
 
-/// Measures every image and writes the table.
-fn time() {
-    let tape = vec![0; CALL];
-    print!("{HEAD}");
-    for size in SIZES {
-        for image in IMAGES.map(|image| image(size)) {
-            let (library, second) = measure(&image, &tape);
-            let millions = [library, second].map(|speed| format!("{:.1}", speed / 1e6));
-            let factors = [library, second].map(|speed| format!("{:.1}", speed / BOARD));
-            println!(
-                "| {} | {} KiB | {} | {} | {:.2} | {} | {} |",
-                image.name,
-                size / 1024,
-                millions[0],
-                millions[1],
-                library / second,
-                factors[0],
-                factors[1],
-            );
+fn name_listings() -> Option<()> {
+    for (number, listing) in listings().iter().enumerate() {
+        for (range, buffer) in COUNTED {
+            let (lines, name) = (listing.lines(range), listing.name);
+            println!("{number}\t{range}\t{}\t{lines}\t{name}", buffer.name());
         }
     }
+    Some(())
 }
 
-/// The median steps per second of the library and of the second program, call by call in turn.
-fn measure(image: &Image, tape: &[u8]) -> (f64, f64) {
-    let (mut library, mut second) = (Library::new(image), Second::new(image));
-    let first = seconds(&mut library, tape);
-    seconds(&mut second, tape);
-    same(image, &library, &second);
-    let calls = (ROUND.as_secs_f64() / first).ceil().max(1.0) as usize;
-    let mut speeds = [Vec::new(), Vec::new()];
-    for _ in 0..ROUNDS {
-        let mut times = [0.0; 2];
-        for _ in 0..calls {
-            times[0] += seconds(&mut library, tape);
-            times[1] += seconds(&mut second, tape);
-        }
-        for (speeds, time) in speeds.iter_mut().zip(times) {
-            speeds.push((calls * tape.len()) as f64 / time);
-        }
+/// Lists so many times; none if the arguments are wrong.
+fn lines([number, range, buffer, program, times]: [&str; 5]) -> Option<()> {
+    let listings = listings();
+    let listing = listings.get(number.parse::<usize>().ok()?)?;
+    let range = range.parse().ok().filter(|range| COUNTED.iter().any(|each| each.0 == *range))?;
+    let buffer = Buffer::ALL.into_iter().find(|each| each.name() == buffer)?;
+    let list = match program {
+        "library" => Lister::by_library,
+        "second" => Lister::by_second,
+        _ => return None,
+    };
+    let mut lister = Lister::new(listing, range, buffer);
+    for _ in 0..times.parse::<u32>().ok()? {
+        list(&mut lister);
     }
-    same(image, &library, &second);
-    eprintln!("{}, {} bytes: {calls} million steps a round", image.name, image.memory.len());
-    let [library, second] = speeds.map(median);
-    (library, second)
-}
-
-/// Both programs have made as many steps, so they hold the same.
-fn same(image: &Image, library: &Library, second: &Second) {
-    assert!(library.contents() == second.contents(), "{}: the programs differ", image.name);
-}
-
-fn seconds(machine: &mut impl Machine, tape: &[u8]) -> f64 {
-    let began = Instant::now();
-    machine.run(tape);
-    began.elapsed().as_secs_f64()
-}
-
-fn median(mut speeds: Vec<f64>) -> f64 {
-    speeds.sort_by(f64::total_cmp);
-    speeds[speeds.len() / 2]
+    Some(())
 }

@@ -9,9 +9,11 @@ fn main() {
         Some(folder) => PathBuf::from(folder),
         None => PathBuf::from(env!("CARGO_MANIFEST_DIR")).join("../../target/staticlib"),
     };
-    let archive = folder.join("libabi.a");
-    println!("cargo:rerun-if-changed={}", archive.display());
-    assert!(archive.exists(), "no {}: make it with tools/library", archive.display());
     println!("cargo:rustc-link-search=native={}", folder.display());
-    println!("cargo:rustc-link-lib=static=abi");
+    for part in ["abi", "abi_list"] {
+        let archive = folder.join(format!("lib{part}.a"));
+        println!("cargo:rerun-if-changed={}", archive.display());
+        assert!(archive.exists(), "no {}: make it with tools/library", archive.display());
+        println!("cargo:rustc-link-lib=static={part}");
+    }
 }

@@ -1,14 +1,17 @@
-//! The corpus of whole runs, as `docs/CORPUS.md` defines it: cases and their answers.
+//! The corpus of whole runs, as `docs/CORPUS.md` defines it: cases and their answers. Beside it,
+//! generated cases of a listing, which are no part of the file.
 
 mod build;
 mod coverage;
 mod edges;
+mod listing;
 mod random;
 mod trace;
 
 pub use build::{assemble, Line};
 pub use coverage::{coverage, Coverage};
 pub use edges::edges;
+pub use listing::{list_case, ListCase, ListCoverage};
 pub use random::random;
 pub use trace::{trace_line, TraceLine};
 

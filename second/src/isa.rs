@@ -436,6 +436,10 @@ impl Instr {
     }
 
     /// The name in the documents.
+    ///
+    /// It and its parts are always inlined, as those of `decode` are: then a listing has no match
+    /// for it alone.
+    #[inline(always)]
     pub const fn mnemonic(&self) -> &'static str {
         match *self {
             Instr::Alu { op, .. } => op.mnemonic(),
@@ -513,6 +517,7 @@ impl Instr {
 }
 
 impl AluOp {
+    #[inline(always)]
     const fn mnemonic(self) -> &'static str {
         match self {
             AluOp::Sub => "sub",
@@ -533,6 +538,7 @@ impl AluOp {
 
 impl MultShiftOp {
     /// The names with Rb and with UIMM4.
+    #[inline(always)]
     const fn mnemonics(self) -> (&'static str, &'static str) {
         match self {
             MultShiftOp::Lsl => ("lsl", "lsli"),
@@ -544,6 +550,7 @@ impl MultShiftOp {
 }
 
 impl CompareOp {
+    #[inline(always)]
     const fn mnemonic(self) -> &'static str {
         match self {
             CompareOp::Eq => "cmpeq",
@@ -556,6 +563,7 @@ impl CompareOp {
 }
 
 impl CompareImmediateOp {
+    #[inline(always)]
     const fn mnemonic(self) -> &'static str {
         match self {
             CompareImmediateOp::Eq => "cmpeqi",
@@ -566,6 +574,7 @@ impl CompareImmediateOp {
 }
 
 impl ConditionalOp {
+    #[inline(always)]
     const fn mnemonic(self, tf: bool) -> &'static str {
         match (self, tf) {
             (ConditionalOp::Mov, false) => "movf",
@@ -580,6 +589,7 @@ impl ConditionalOp {
 
 impl When {
     /// The names of the short and of the long jump.
+    #[inline(always)]
     const fn mnemonics(self) -> (&'static str, &'static str) {
         match self {
             When::False => ("sjf", "jf"),

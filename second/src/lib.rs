@@ -10,6 +10,9 @@ pub mod word;
 /// Instructions: decoding, encoding, mnemonics, and the addresses that they name.
 pub mod isa;
 
+/// The listing of an image.
+pub mod listing;
+
 /// The lines of `docs/VECTORS.md`, which the proved library computes too.
 pub mod vectors;
 
@@ -33,5 +36,6 @@ pub mod record;
 /// The small program.
 pub mod script;
 
-/// The cases and answers of `docs/CORPUS.md`, which the proved library computes too.
+/// The cases and answers of `docs/CORPUS.md`, which the proved library computes too, and generated
+/// cases of a listing.
 pub mod corpus;

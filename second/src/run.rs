@@ -5,7 +5,7 @@ use crate::state::State;
 use crate::step::{step, Step};
 
 /// The greatest length of memory.
-const LONGEST_MEMORY: usize = 65_536;
+pub const LONGEST_MEMORY: usize = 65_536;
 
 /// The greatest tape byte: six lines.
 const HIGHEST_TAPE_BYTE: u8 = 63;

@@ -1,5 +1,8 @@
 //! The vectors of words and instructions, as `docs/VECTORS.md` defines them.
 
+/// The vectors of the listing.
+pub mod listing;
+
 use crate::isa::{decode, encode, mnemonics, Halves, Instr};
 use crate::word::{self, Width};
 
@@ -23,12 +26,18 @@ impl Tally {
     const EMPTY: Tally = Tally { cases: 0, digest: 1 };
 
     /// Counts one case and folds its numbers.
-    fn count(&mut self, numbers: &[u32]) {
+    fn count<T: Copy + Into<u64>>(&mut self, numbers: &[T]) {
         self.cases += 1;
         for &number in numbers {
-            self.digest = (self.digest * 1_000_003 + u64::from(number)) % 4_294_967_291;
+            self.digest = (self.digest * 1_000_003 + number.into()) % 4_294_967_291;
         }
     }
+}
+
+/// The second halves that follow a first half, in the page's order.
+fn second_halves(first: u16) -> [u16; 6] {
+    let mixed = first.wrapping_mul(40503).wrapping_add(12345);
+    [0, 1, 32767, 32768, 65535, mixed]
 }
 
 /// The operands as numbers: "those that it lacks count as 0".
@@ -50,8 +59,7 @@ fn decoding(mnemonics: &[Instr]) -> (Vec<Tally>, Tally) {
     let mut tallies = vec![Tally::EMPTY; mnemonics.len()];
     let mut none = Tally::EMPTY;
     for first in 0..=u16::MAX {
-        let mixed = first.wrapping_mul(40503).wrapping_add(12345);
-        for second in [0, 1, 32767, 32768, 65535, mixed] {
+        for second in second_halves(first) {
             let pair = [first.into(), second.into()];
             match decode(first, second) {
                 Some(instr) => {
@@ -194,7 +202,7 @@ fn word_lines() -> String {
     .concat()
 }
 
-/// The whole text of `docs/VECTORS.md`.
+/// All lines of `docs/VECTORS.md` but those of the listing.
 pub fn vectors() -> String {
     instruction_lines() + &word_lines()
 }

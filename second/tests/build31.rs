@@ -4,11 +4,10 @@ use std::collections::BTreeSet;
 use std::fs;
 use std::path::Path;
 
-use second::isa::{data_address, decode, jump_target, needs_second, Instr};
+use second::listing::{list, LONGEST_LINE};
 use second::script::answer;
 use second::state::State;
 use second::step::step;
-use second::word::Width;
 
 /// The three builds.
 const BUILDS: [&str; 3] = ["build31.txt", "build32.txt", "leak.txt"];
@@ -276,70 +275,75 @@ fn the_certificate_is_what_the_files_hold() {
     }
 }
 
-/// An instruction in document 01's written form, with a comma between operands.
-fn written(instr: Instr, address: u32) -> String {
-    use Instr::*;
-    let operands = match instr {
-        Alu { rd, rb, .. } | Compare { rd, rb, .. } => format!("r{rd},r{rb}"),
-        Addi { rd, simm8: simm }
-        | Movi { rd, simm8: simm }
-        | CompareImmediate { rd, simm4: simm, .. } => format!("r{rd},{}", simm as i32),
-        Load { width, rd, uimm4, rb } | Store { width, rd, uimm4, rb } => {
-            format!("r{rd},{},r{rb}", uimm4 * width.bytes())
-        }
-        Ldrpc { rd, uimm8 } => {
-            format!("r{rd},{}", data_address(address, uimm8, Width::Word) as i32)
-        }
-        Mfsfr { rd, sfr } => format!("r{rd},sfr{sfr}"),
-        Jsfr { sfr } => format!("sfr{sfr}"),
-        Jr { rb } => format!("r{rb}"),
-        ShortJump { displacement, .. } | Jl { displacement } => {
-            (jump_target(address, displacement) as i32).to_string()
-        }
-        _ => panic!("{instr:?} is not in the listing"),
-    };
-    format!("{} {operands}", instr.mnemonic())
+/// A listing on the page: the image that it is of, the range, the text, and the addresses of the
+/// table below it.
+struct Shown {
+    image: String,
+    range: std::ops::Range<usize>,
+    text: String,
+    explained: Vec<String>,
 }
 
-/// A row of the page's listing.
-struct Row {
-    address: u32,
-    bits: Vec<u8>,
-    instruction: String,
+fn number(word: &str) -> usize {
+    usize::from_str_radix(word.strip_prefix("0x").expect("a number in hex"), 16).expect("a number")
 }
 
-/// The rows that belong to a file. A heading that names files begins rows of those files, and one
-/// that names none begins rows of all three.
-fn listing(name: &str) -> Vec<Row> {
-    let (mut rows, mut belongs) = (Vec::new(), true);
-    for line in page().lines() {
-        if line.starts_with('#') {
-            belongs = line.contains(name) || !BUILDS.iter().any(|other| line.contains(other));
-        }
-        let cells: Vec<&str> = line.split('|').map(str::trim).collect();
-        let [_, address, bits, instruction, _, _] = cells[..] else { continue };
-        if let (true, Ok(address)) = (belongs, u32::from_str_radix(address, 16)) {
-            let instruction = instruction.trim_matches('`').into();
-            rows.push(Row { address, bits: hex(bits), instruction });
-        }
+/// The listings that the page shows, with the files that their headings name: none stands for all.
+fn listings() -> Vec<(Vec<&'static str>, Shown)> {
+    let page = page();
+    let mut shown = Vec::new();
+    for section in page.split("\n###").skip(1) {
+        let (heading, body) = section.split_once('\n').expect("a heading");
+        let Some((_, call)) = body.split_once("    $ tools/manik-list examples/") else { continue };
+        let (command, rest) = call.split_once("\n\n```\n").expect("a block");
+        let [image, start, end] = command.split(' ').collect::<Vec<_>>()[..] else {
+            panic!("{command}")
+        };
+        let (text, table) = rest.split_once("```\n").expect("the block's end");
+        let rows =
+            table.lines().take_while(|line| line.is_empty() || line.starts_with('|')).skip(3);
+        let explained =
+            rows.filter_map(|row| Some(row.strip_prefix("| ")?.split_once(' ')?.0.into()));
+        let named = BUILDS.into_iter().filter(|name| heading.contains(name)).collect();
+        let (image, range) = (image.into(), number(start)..number(end));
+        shown.push((
+            named,
+            Shown { image, range, text: text.into(), explained: explained.collect() },
+        ));
     }
-    rows
+    shown
 }
 
+/// The images are the memories of the inputs with their names.
 #[test]
-fn the_listing_is_what_the_files_hold() {
+fn images_are_what_the_files_hold() {
+    for name in BUILDS {
+        let image = format!("../examples/{}", name.replace(".txt", ".image"));
+        let image = fs::read(Path::new(env!("CARGO_MANIFEST_DIR")).join(image)).expect("an image");
+        assert_eq!(image, memory(&example(name)), "{name}");
+    }
+}
+
+/// Every listing is that of each file which its heading names, and together they show all the code.
+#[test]
+fn the_listings_are_what_the_files_hold() {
     for name in BUILDS {
         let memory = memory(&example(name));
         let mut listed = BTreeSet::new();
-        for Row { address, bits, instruction } in listing(name) {
-            let places = address as usize..address as usize + bits.len();
-            assert_eq!(memory[places.clone()], bits, "{name} {address:04x}");
-            let half = |i| u16::from_be_bytes([bits[i], bits[i + 1]]);
-            let (first, second) = (half(0), if bits.len() == 4 { half(2) } else { 0 });
-            assert_eq!(bits.len() == 4, needs_second(first), "{name} {address:04x}");
-            let instr = decode(first, second).expect("an instruction");
-            assert_eq!(instruction, written(instr, address), "{name} {address:04x}");
-            listed.extend(places);
+        for (named, Shown { image, range, text, explained }) in listings() {
+            assert!(
+                named.is_empty()
+                    || named.iter().any(|other| image == other.replace(".txt", ".image"))
+            );
+            if !named.is_empty() && !named.contains(&name) {
+                continue;
+            }
+            let mut out = vec![0; LONGEST_LINE * range.len()];
+            let length = list(&memory, range.start, range.end, &mut out).expect("a range");
+            assert_eq!(text, String::from_utf8_lossy(&out[..length]), "{name} {range:?}");
+            let addresses: Vec<&str> = text.lines().map(|line| &line[4..8]).collect();
+            assert_eq!(addresses, explained, "{name} {range:?}");
+            listed.extend(range);
         }
         assert_eq!(listed, (0..0x16).chain(0x20..0x44).collect(), "{name}");
     }

@@ -1,10 +1,12 @@
 //! The command: its subcommands, and how it answers a wrong call.
 
+use std::env::temp_dir;
+use std::fs;
 use std::io::Write;
-use std::process::{Command, Output, Stdio};
+use std::process::{self, Command, Output, Stdio};
 
 use second::corpus;
-use second::vectors::vectors;
+use second::vectors::{listing, vectors};
 
 /// Runs the command with this standard input.
 fn run(arguments: &[&str], input: &[u8]) -> Output {
@@ -17,11 +19,83 @@ fn run(arguments: &[&str], input: &[u8]) -> Output {
 }
 
 #[test]
-fn vectors_isa_writes_the_vectors() {
-    let output = run(&["vectors-isa"], b"");
-    assert_eq!(output.status.code(), Some(0));
-    assert_eq!(String::from_utf8(output.stdout).expect("plain text"), vectors());
-    assert!(output.stderr.is_empty());
+fn the_vectors_subcommands_write_the_vectors() {
+    for (subcommand, expected) in [("vectors-isa", vectors()), ("vectors-list", listing::vectors())]
+    {
+        let output = run(&[subcommand], b"");
+        assert_eq!(output.status.code(), Some(0));
+        assert_eq!(String::from_utf8(output.stdout).expect("plain text"), expected);
+        assert!(output.stderr.is_empty());
+    }
+}
+
+/// A file in the folder for such, which goes with this value.
+struct Stored(String);
+
+impl Stored {
+    fn new(name: &str, bytes: &[u8]) -> Stored {
+        let path = temp_dir().join(format!("second-{}-{name}", process::id()));
+        fs::write(&path, bytes).expect("the file can be written");
+        Stored(path.into_os_string().into_string().expect("a plain path"))
+    }
+}
+
+impl Drop for Stored {
+    fn drop(&mut self) {
+        // If it can't be removed, nothing depends on it.
+        let _ = fs::remove_file(&self.0);
+    }
+}
+
+#[test]
+fn list_writes_the_listing_of_a_file() {
+    let Stored(file) = &Stored::new("image", b"\x21\x12\xf8\x00\x00\x02\x6f\x08\xff");
+    let whole = "00000000\t2112\tadd\tr1\tr2\n00000002\tf8000002\tjl\t6\n\
+                 00000006\t6f08\taddi\tr0\t-8\n";
+    let cut = "00000002\tf800\thalf\t0xf800\n";
+    let calls = [
+        ("0", "8", whole),
+        ("0x0", "0x8", whole),
+        ("00", "0x08", whole),
+        ("2", "4", cut),
+        ("4", "4", ""),
+    ];
+    for (start, end, expected) in calls {
+        let output = run(&["list", file, start, end], b"");
+        assert_eq!(output.status.code(), Some(0), "{start} {end}");
+        assert_eq!(String::from_utf8(output.stdout).expect("plain text"), expected);
+        assert!(output.stderr.is_empty(), "{start} {end}");
+    }
+}
+
+#[test]
+fn list_tells_why_there_is_no_listing() {
+    let Stored(file) = &Stored::new("short", &[0; 8]);
+    let Stored(long) = &Stored::new("long", &[0; 65_537]);
+    let missing = &format!("{file}-missing");
+    let calls = [
+        (file, "1", "4", "refusal 20"),
+        (file, "4", "2", "refusal 20"),
+        (file, "0", "10", "refusal 20"),
+        (file, "0", "0xfffffffffffffffe", "refusal 20"),
+        (long, "0", "2", "refusal 20"),
+        (missing, "0", "2", missing),
+        (file, "", "2", "\"\" is no"),
+        (file, "0", "0x", "\"0x\" is no"),
+        (file, "0", "+2", "\"+2\" is no"),
+        (file, "0", "0x+2", "\"0x+2\" is no"),
+        (file, "-2", "2", "\"-2\" is no"),
+        (file, "0", "1a", "\"1a\" is no"),
+        (file, "0", "99999999999999999999", "\"99999999999999999999\" is no"),
+    ];
+    for (file, start, end, message) in calls {
+        let output = run(&["list", file, start, end], b"");
+        let told = String::from_utf8(output.stderr).expect("plain text");
+        assert_eq!(output.status.code(), Some(1), "{start} {end}");
+        assert!(output.stdout.is_empty(), "{start} {end}");
+        assert!(told.starts_with(&format!("second: {message}")), "{start} {end}: {told}");
+        assert_eq!(told.lines().count(), 1, "{told}");
+    }
 }
 
 #[test]
@@ -61,15 +135,33 @@ fn the_corpus_subcommands_write_the_corpus() {
 #[test]
 fn the_usage_lists_every_subcommand() {
     let usage = String::from_utf8(run(&[], b"").stderr).expect("plain text");
-    for subcommand in ["vectors-isa", "script", "corpus-cases", "corpus-answers", "corpus-coverage"]
-    {
-        assert!(usage.contains(&format!("\n  {subcommand} ")), "{subcommand}: {usage}");
+    let subcommands = [
+        "vectors-isa",
+        "vectors-list",
+        "script",
+        "list FILE START END",
+        "corpus-cases",
+        "corpus-answers",
+        "corpus-coverage",
+    ];
+    for subcommand in subcommands {
+        assert!(usage.lines().any(|line| line.starts_with(&format!("  {subcommand}"))), "{usage}");
     }
 }
 
 #[test]
 fn a_wrong_call_gets_the_usage_and_status_2() {
-    let calls = [&[][..], &["vectors"], &["vectors-isa", "more"], &["script", "file"], &["--help"]];
+    let calls = [
+        &[][..],
+        &["vectors"],
+        &["vectors-isa", "more"],
+        &["vectors-list", "more"],
+        &["script", "file"],
+        &["list"],
+        &["list", "file", "0"],
+        &["list", "file", "0", "2", "more"],
+        &["--help"],
+    ];
     for arguments in calls {
         let output = run(arguments, b"");
         assert_eq!(output.status.code(), Some(2), "{arguments:?}");

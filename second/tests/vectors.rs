@@ -1,9 +1,10 @@
-//! The file that the gate compares the proved library's vectors with is what this program computes.
+//! The files that the gate compares the proved library's vectors with are what this program
+//! computes.
 
 use std::fs;
 use std::path::Path;
 
-use second::vectors::vectors;
+use second::vectors::{listing, vectors};
 
 /// The number of the first line that differs, and that line on both sides; none if all agree.
 fn first_difference(left: &str, right: &str) -> Option<String> {
@@ -15,15 +16,26 @@ fn first_difference(left: &str, right: &str) -> Option<String> {
     })?
 }
 
-#[test]
-fn the_file_is_what_is_computed() {
-    let path = Path::new(env!("CARGO_MANIFEST_DIR")).join("../crates/vectors_isa/stdout");
+/// Holds the stored file of a crate to what this subcommand writes.
+fn agrees(name: &str, subcommand: &str, computed: &str) {
+    let crates = Path::new(env!("CARGO_MANIFEST_DIR")).join("../crates");
+    let path = crates.join(name).join("stdout");
     let file = fs::read_to_string(&path).unwrap_or_else(|error| {
-        panic!("{}: {error}; write it with `second vectors-isa`", path.display())
+        panic!("{}: {error}; write it with `second {subcommand}`", path.display())
     });
-    if let Some(difference) = first_difference(&file, &vectors()) {
+    if let Some(difference) = first_difference(&file, computed) {
         panic!("{} differs at {difference}", path.display());
     }
+}
+
+#[test]
+fn the_file_is_what_is_computed() {
+    agrees("vectors_isa", "vectors-isa", &vectors());
+}
+
+#[test]
+fn the_file_of_the_listing_is_what_is_computed() {
+    agrees("vectors_list", "vectors-list", &listing::vectors());
 }
 
 #[test]

@@ -8,7 +8,6 @@ use crate::faults::line_fault;
 use crate::faults::no_fault;
 use crate::lines::whole_line;
 use crate::rooms::clear;
-use crate::rooms::start_part;
 
 fn next_number(n: u64) -> u64
     ensures { λ r. ⌜ r ≡ nextNumber n ⌝ }
@@ -34,7 +33,7 @@ fn end_line(r: Reader, line: &[u8; 45], m: &mut [u8; 16384], k: &mut [u8; 16384]
 {
     let before = r.phase;
     let kept = r.fault;
-    let l = start_part(line, r.used);
+    let l = text::start_part(line, r.used);
     let fault = line_fault(before, kept, l);
     let phase = whole_line(before, l, m, k);
     Reader {

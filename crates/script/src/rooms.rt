@@ -1,6 +1,5 @@
-// Rooms of fixed length, and the start of one.
+// Rooms of fixed length.
 ghost use mathlib.Core.Path.{_≡_};
-ghost use lib.ListN.{take};
 ghost use Rattle.script.specs.Line.{blank};
 
 pub fn zeros() -> [u8; 16384]
@@ -13,14 +12,4 @@ pub fn clear(m: &mut [u8; 16384])
     ensures { λ _. ⌜ now (m .exit) ≡ blank ⌝ }
 {
     *m = zeros();
-}
-
-// The first n bytes, or all where there are fewer.
-pub fn start_part(l: &[u8], n: usize) -> &[u8]
-    ensures { λ r. ⌜ now r ≡ take n (now (l .entry)) ⌝ }
-{
-    if n < l.len() {
-        return &l[..n];
-    }
-    l
 }

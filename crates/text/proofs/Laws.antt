@@ -13,7 +13,7 @@ use borrow.Author.Tests.{lt-ltb, le-ltb, eq-eqb, ne-eqb}
 use lib.Pow.{pow-add, pow-mono}
 use lib.ListN.{length, getD, take, drop, set, length-drop, drop-of-length-le}
 use lib.Seq.{take-all, append-snoc, drop-cons, lt-length-set, getD-set-same, drop-set-lt}
-use Rattle.text.specs.Digits.{valueOf, glyphOf, digitsRead, digitsIn, digitsOf, zerosOf, areHex}
+use Rattle.text.specs.Digits.{valueOf, glyphOf, digitsRead, digitsIn, digitsOf, areHex}
 use Rattle.text.specs.Fields.{tabOf, sameOf}
 use Rattle.text.specs.declared.Read.{Read}
 
@@ -67,24 +67,6 @@ module _ (a b : List ℕ) (i : ℕ) (h : i < length a) (k : i < length b) where
   unfolding sameOf
   same-stop e = rw (next a i h, next b i k, ne-eqb _ _ e)
 
-module _ (l : List ℕ) (i : ℕ) (h : 1 < length l - i) where
-  here : i < length l
-  here = omega arith
-
-  there : i + 1 < length l
-  there = omega arith
-
-  pub zeros-on : getD l i 0 ≡ 48 → zerosOf (drop i l) ≡ zerosOf (drop (i + 1) l) + 1
-  unfolding zerosOf
-  zeros-on e = ap zerosOf two ∙ rw (eq-eqb _ _ e) (sym (ap (λ (r : List ℕ). zerosOf r + 1) (next l (i + 1) there) ∙ add-one _))
-    where
-      two : drop i l ≡ getD l i 0 ∷ getD l (i + 1) 0 ∷ drop (i + 1 + 1) l
-      two = next l i here ∙ ap (λ (r : List ℕ). getD l i 0 ∷ r) (next l (i + 1) there)
-
-  pub zeros-stop : (getD l i 0 ≡ 48 → ⊥) → zerosOf (drop i l) ≡ 0
-  unfolding zerosOf
-  zeros-stop e = rw (next l i here, next l (i + 1) there, ne-eqb _ _ e)
-
 -- and from the end on
 module _ (l : List ℕ) (i : ℕ) (h : length l ≤ i) where
   pub number-none : (b v : ℕ) → digitsRead b v (drop i l) ≡ Read.Number v
@@ -102,15 +84,6 @@ module _ (l : List ℕ) (i : ℕ) (h : length l ≤ i) where
 pub same-none : (a b : List ℕ) (i : ℕ) → length a ≤ i → length b ≤ i → sameOf (drop i a) (drop i b) ≡ true
 unfolding sameOf
 same-none a b i h k = rw (drop-of-length-le a h, drop-of-length-le b k)
-
-pub zeros-none : (l : List ℕ) (i : ℕ) → length l - i ≤ 1 → zerosOf (drop i l) ≡ 0
-unfolding zerosOf
-zeros-none l i h = short (drop i l) (subst (λ (n : ℕ). n ≤ 1) (sym (length-drop i l)) h)
-  where
-    short : (r : List ℕ) → length r ≤ 1 → zerosOf r ≡ 0
-    short [] q = refl
-    short (c ∷ []) q = refl
-    short (c ∷ d ∷ r) q = absurd (omega arith)
 
 -- texts of unequal lengths differ
 pub same-length : (a b : List ℕ) → (length a ≡ length b → ⊥) → sameOf a b ≡ false
@@ -132,7 +105,12 @@ digit-more base i v d hb h hd =
     let q : v * base ≤ v * 16 = mul-le-mul-left v hb in
     subst (λ (n : ℕ). v * base + d < n) (sym p) (omega (arith, digits-lt {q = v} {m = 2 ^ (4 * i)} {r = d} {c = 16} h (omega arith)))
 
--- one digit spelled, before those that stand already
+-- one digit set in front of those that stand already
+pub digit-before : (out : List ℕ) (j g : ℕ) → j < length out → drop j (set out j g) ≡ g ∷ drop (suc j) out
+digit-before out j g h =
+    drop-cons (set out j g) j 0 (lt-length-set out j g h)
+    ∙ ap₂ (λ (x : ℕ) (r : List ℕ). x ∷ r) (getD-set-same out j g 0 h) (drop-set-lt (suc j) out j g (omega arith))
+
 pub spell-more : (base i n : ℕ) (out : List ℕ) → 0 < i → i ≤ length out
     → digitsOf base i n ++ drop i out ≡ digitsOf base (i - 1) (n / base) ++ drop (i - 1) (set out (i - 1) (glyphOf (n % base)))
 unfolding digitsOf
@@ -140,18 +118,11 @@ spell-more base zero n out h k = absurd (lt-irrefl 0 h)
 spell-more base (suc j) n out h k =
     let e : suc j - 1 ≡ j = omega arith in
     subst⁻¹ (λ (x : ℕ). digitsOf base (suc j) n ++ drop (suc j) out ≡ digitsOf base x (n / base) ++ drop x (set out x g)) e
-    (begun ∙ ap (λ (r : List ℕ). digitsOf base j (n / base) ++ r) (sym tail))
+    (append-snoc (digitsOf base j (n / base)) g (drop (suc j) out)
+    ∙ ap (λ (r : List ℕ). digitsOf base j (n / base) ++ r) (sym (digit-before out j g k)))
   where
     g : ℕ
     g = glyphOf (n % base)
-
-    begun : digitsOf base (suc j) n ++ drop (suc j) out ≡ digitsOf base j (n / base) ++ (g ∷ drop (suc j) out)
-    begun = append-snoc (digitsOf base j (n / base)) g (drop (suc j) out)
-
-    tail : drop j (set out j g) ≡ g ∷ drop (suc j) out
-    tail =
-        drop-cons (set out j g) j 0 (lt-length-set out j g k)
-        ∙ ap₂ (λ (x : ℕ) (r : List ℕ). x ∷ r) (getD-set-same out j g 0 k) (drop-set-lt (suc j) out j g (omega arith))
 
 pub spell-none : (base i n : ℕ) (out : List ℕ) → i ≤ 0 → digitsOf base i n ++ drop i out ≡ out
 unfolding digitsOf

@@ -8,7 +8,7 @@ use native.Mathlib.Numerals.{add-one}
 use native.Mathlib.Omega.{arith}
 use lib.ListN.{length, getD, drop, set, length-set, drop-of-length-le}
 use lib.Seq.{sets, drop-cons}
-use borrow.Author.Tests.{lt-ltb}
+use borrow.Author.Tests.{lt-ltb, le-ltb}
 use Rattle.text.specs.Pages.{Page, page, oneOn, writeOn}
 
 -- two texts one after the other, three, and five
@@ -33,6 +33,18 @@ write-more l i p h = rw (add-one i, drop-cons l i 0)
 pub write-none : (l : List ℕ) (i : ℕ) (p : Page) → length l ≤ i → writeOn (drop i l) p ≡ p
 unfolding writeOn
 write-none l i p h = rw (drop-of-length-le l h)
+
+-- a byte for which there is room, and a place past the end
+pub write-in : (l out : List ℕ) (a i : ℕ) → i < length l → a + i < length out
+    → writeOn (drop i l) (page out (a + i)) ≡ writeOn (drop (i + 1) l) (page (set out (a + i) (getD l i 0)) (a + (i + 1)))
+write-in l out a i h k =
+    let e : a + i + 1 ≡ a + (i + 1) = omega arith in
+    write-more l i (page out (a + i)) h ∙ rw (lt-ltb (a + i) (length out) k, e)
+
+pub write-past : (l out : List ℕ) (a : ℕ) → length out ≤ a → writeOn l (page out a) ≡ page out a
+unfolding writeOn
+write-past [] out a h = refl
+write-past (b ∷ l) out a h = rw (le-ltb a (length out) h) (write-past l out a h)
 
 -- a text that fits stands in the room, and its length later is the next place
 pub written-at : (t l : List ℕ) (a : ℕ) → a + length t ≤ length l → writeOn t (page l a) ≡ page (sets l a t) (a + length t)

@@ -1,7 +1,7 @@
 -- What is written reads back as the number that it was written for, so two numbers never share a text.
 -- Assumes nothing.
 use Prim.Native.Nat.{ℕ, zero, suc, _+_, _*_, _-_, _/_, _%_, _^_, _<_, _≤_}
-use mathlib.Core.Path.{_≡_, refl, sym, ap, subst, _∙_}
+use mathlib.Core.Path.{_≡_, refl, sym, ap, ap₂, subst, _∙_}
 use mathlib.Core.Bool.{Bool, true, false, cond}
 use mathlib.Core.List.{List, [], _∷_, _++_, append-assoc, append-nil}
 use native.Mathlib.Nat.{mod-lt, div-add-mod', div-lt-iff-lt-mul, add-mul, mul-assoc, zero-mul, zero-div, zero-mod, lt-irrefl, pow-zero, pow-suc}
@@ -9,6 +9,7 @@ use native.Mathlib.Numerals.{add-one}
 use native.Mathlib.Omega.{arith}
 use lib.Dec.{ltb, eqb}
 use lib.ListN.{length, drop, replicate, length-append, length-drop, length-replicate, replicate-append-replicate}
+use lib.Seq.{drop-append-le}
 use borrow.Author.Tests.{ltb-true, ltb-false, lt-ltb, le-ltb, le-leb, eqb-true}
 use Rattle.text.specs.Digits.{valueOf, glyphOf, digitsRead, digitsOf, leadingZero, decimalOf, zerosOf, addressOf, pairOf, hexText, decimalText}
 use Rattle.text.specs.declared.Read.{Read}
@@ -49,7 +50,7 @@ joined v p q base r n e =
     omega arith
 
 module _ (base : ℕ) (low : 0 < base) (high : base ≤ 16) where
-  smaller : (w n : ℕ) → n < base ^ suc w → n / base < base ^ w
+  pub smaller : (w n : ℕ) → n < base ^ suc w → n / base < base ^ w
   smaller w n h = div-lt-iff-lt-mul {k = base} {x = n} {y = base ^ w} low .1 (rw pow-suc at h)
 
   digit : (n : ℕ) → valueOf (glyphOf (n % base)) ≡ n % base
@@ -184,6 +185,68 @@ some n =
 
 pub read-decimal : (n : ℕ) → n < 10 ^ 20 → digitsRead 10 0 (decimalText n) ≡ Read.Number n
 read-decimal n h = zeros-free 10 (omega arith) (omega arith) (digitsOf 10 20 n) ∙ read-written 10 (omega arith) (omega arith) 20 n h
+
+-- a digit after a text that is not all zeros leads nothing
+zeros-before : (l : List ℕ) (g : ℕ) → (l ≡ replicate (length l) 48 → ⊥) → zerosOf (l ++ (g ∷ [])) ≡ zerosOf l
+unfolding zerosOf
+zeros-before [] g h = absurd (h refl)
+zeros-before (c ∷ []) g h = go (eqb c 48) refl
+  where
+    go : (t : Bool) → eqb c 48 ≡ t → _≡_ {A = ℕ} (cond t 1 0) 0
+    go true e = absurd (h (ap (λ (x : ℕ). x ∷ []) (eqb-true c 48 e)))
+    go false e = refl
+zeros-before (c ∷ d ∷ l) g h = go (eqb c 48) refl (zeros-before (d ∷ l) g)
+  where
+    go : (t : Bool) → eqb c 48 ≡ t → ((d ∷ l ≡ replicate (length (d ∷ l)) 48 → ⊥) → zerosOf (d ∷ (l ++ (g ∷ []))) ≡ zerosOf (d ∷ l))
+        → cond t (suc (zerosOf (d ∷ (l ++ (g ∷ []))))) 0 ≡ cond t (suc (zerosOf (d ∷ l))) 0
+    go true e f = ap suc (f (λ q. h (ap₂ (λ (x : ℕ) (r : List ℕ). x ∷ r) (eqb-true c 48 e) q)))
+    go false e f = refl
+
+-- a number's digits are those of its tenth, and one more
+module _ (n : ℕ) (high : n < 10 ^ 20) where
+  tenth : n / 10 < 10 ^ 19
+  tenth = smaller 10 (omega arith) (omega arith) 19 n high
+
+  front : digitsOf 10 20 (n / 10) ≡ 48 ∷ digitsOf 10 19 (n / 10)
+  front = in-front 10 (omega arith) (omega arith) 1 19 (n / 10) tenth
+
+  -- without leading zeros, one in front more or less is the same
+  led-once : (l : List ℕ) → 0 < length l → drop (zerosOf (48 ∷ l)) (48 ∷ l) ≡ drop (zerosOf l) l
+  unfolding zerosOf
+  led-once [] h = absurd (lt-irrefl 0 h)
+  led-once (c ∷ l) h = refl
+
+  pub decimal-more : 10 ≤ n → decimalText n ≡ decimalText (n / 10) ++ (glyphOf (n % 10) ∷ [])
+  unfolding digitsOf
+  decimal-more low =
+      rw (zeros-before d g some-digit, drop-append-le (zerosOf d) d (g ∷ []) (le (fewer d (rw (digits-length 10 19 (n / 10)) (omega arith)))))
+      (ap (λ (l : List ℕ). l ++ (g ∷ [])) (sym (ap (λ (l : List ℕ). drop (zerosOf l) l) front ∙ led-once d (rw (digits-length 10 19 (n / 10)) (omega arith)))))
+    where
+      d : List ℕ
+      d = digitsOf 10 19 (n / 10)
+
+      g : ℕ
+      g = glyphOf (n % 10)
+
+      le : {a b : ℕ} → a < b → a ≤ b
+      le h = omega arith
+
+      some-digit : d ≡ replicate (length d) 48 → ⊥
+      some-digit e =
+          let z : digitsOf 10 19 (n / 10) ≡ digitsOf 10 19 0
+          = e ∙ ap (λ (k : ℕ). replicate k 48) (digits-length 10 19 (n / 10)) ∙ sym (only-zeros 10 (omega arith) (omega arith) 19) in
+          let q : n / 10 ≡ 0 = digits-differ 10 (omega arith) (omega arith) 19 (n / 10) 0 tenth (omega arith) z in
+          omega arith
+
+  pub decimal-one : n < 10 → decimalText n ≡ glyphOf n ∷ []
+  unfolding zerosOf digitsOf
+  decimal-one low =
+      let e : n % 10 ≡ n = omega arith in
+      ap (λ (l : List ℕ). drop (zerosOf l) l) (in-front 10 (omega arith) (omega arith) 19 1 n low) ∙ ap (λ (x : ℕ). glyphOf x ∷ []) e
+
+pub decimal-two : (n : ℕ) → 10 ≤ n → n < 100 → decimalText n ≡ glyphOf (n / 10) ∷ glyphOf (n % 10) ∷ []
+decimal-two n low high =
+    decimal-more n (omega arith) low ∙ ap (λ (l : List ℕ). l ++ (glyphOf (n % 10) ∷ [])) (decimal-one (n / 10) (omega arith) (omega arith))
 
 -- a decimal of up to five digits reads back
 pub decimal-reads : (n : ℕ) → n < 100000 → decimalOf (decimalText n) ≡ Read.Number n

@@ -1,10 +1,11 @@
 -- Digits and numbers (document 01, "Written form in our tools": "lower-case hex", "decimals without leading zeros"), once over the base.
 -- Assumes nothing.
-use Prim.Native.Nat.{ℕ, zero, suc, _+_, _-_, _*_, _/_, _%_}
+use Prim.Native.Nat.{ℕ, zero, suc, _+_, _-_, _*_, _/_, _%_, _^_}
 use mathlib.Core.Bool.{Bool, true, cond, _&&_}
 use mathlib.Core.List.{List, [], _∷_, _++_}
 use lib.Dec.{ltb, leb, eqb}
 use lib.ListN.{length, getD, drop}
+use Rattle.text.specs.Words.{ascii}
 use Rattle.text.specs.declared.Read.{Read}
 
 -- what a byte is worth as a digit, `0` to `9` and `a` to `f`; 16 for any other byte
@@ -14,6 +15,10 @@ valueOf c = cond (ltb c 48) 16 (cond (ltb c 58) (c - 48) (cond (ltb c 97) 16 (co
 -- the digit of a number below 16
 unfoldable pub glyphOf : ℕ → ℕ
 glyphOf d = cond (ltb d 10) (48 + d) (87 + d)
+
+-- the sixteen of them
+abbrev pub glyphs : List ℕ
+glyphs = ascii "0123456789abcdef"
 
 -- the number that digits of a base write after v, or nothing if a byte is no such digit
 unfoldable pub digitsRead : ℕ → ℕ → List ℕ → Read
@@ -67,3 +72,11 @@ hexText n = digitsOf 16 8 n
 -- "decimals without leading zeros"; twenty digits hold every 64-bit number
 abbrev pub decimalText : ℕ → List ℕ
 decimalText n = drop (zerosOf (digitsOf 10 20 n)) (digitsOf 10 20 n)
+
+-- a half: four digits
+abbrev pub halfText : ℕ → List ℕ
+halfText n = digitsOf 16 4 n
+
+-- "signed decimals": of 32 bits, a number from 2^31 on is the one that is 2^32 below it
+unfoldable pub signedText : ℕ → List ℕ
+signedText n = cond (ltb n (2 ^ 31)) (decimalText n) (45 ∷ decimalText (2 ^ 32 - n))

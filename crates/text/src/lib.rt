@@ -1,15 +1,18 @@
 // Text in the written form of our tools: fields parted by tabs, decimals without leading zeros, lower-case hex.
 ghost use mathlib.Core.Path.{_≡_};
-ghost use Prim.Native.Nat.{_≤_, _<_};
-ghost use lib.ListN.{length};
-ghost use Rattle.text.specs.Digits.{valueOf, glyphOf, digitsRead, digitsIn, digitsOf, leadingZero, decimalOf, zerosOf, addressOf, areHex, pairOf, hexText};
+ghost use Prim.Native.Nat.{_≤_, _<_, _%_};
+ghost use lib.ListN.{length, getD, take};
+ghost use Rattle.text.specs.Digits.{valueOf, glyphOf, glyphs, digitsRead, digitsIn, digitsOf, leadingZero, decimalOf, addressOf, areHex, pairOf, hexText, halfText};
 ghost use Rattle.text.specs.Fields.{tabOf, beforeOf, beyondOf, sameOf};
 
 mod writing;
 
+pub use writing::put;
 pub use writing::put_all;
+pub use writing::put_half;
 pub use writing::put_hex;
 pub use writing::put_number;
+pub use writing::put_signed;
 
 // What a field says.
 pub enum Read {
@@ -17,13 +20,17 @@ pub enum Read {
     Nothing,
 }
 
-// A number as twenty digits, and how many of them are leading zeros.
-pub struct Spelling {
-    pub digits: [u8; 20],
-    pub zeros: usize,
-}
+// ---- parts and fields
 
-// ---- fields
+// The first n bytes, or all where there are fewer.
+pub fn start_part(l: &[u8], n: usize) -> &[u8]
+    ensures { λ r. ⌜ now r ≡ take n (now (l .entry)) ⌝ }
+{
+    if n < l.len() {
+        return &l[..n];
+    }
+    l
+}
 
 fn tab_in(l: &[u8]) -> usize
     ensures { λ r. ⌜ (r ≡ tabOf (now (l .entry))) × (r ≤ length (now (l .entry))) ⌝ }
@@ -189,6 +196,19 @@ fn glyph(d: u64) -> u8
     if d < 10 { 48 + d as u8 } else { 87 + d as u8 }
 }
 
+pub fn glyph_table() -> [u8; 16]
+    ensures { λ r. ⌜ r ≡ glyphs ⌝ }
+{
+    *b"0123456789abcdef"
+}
+
+// The last hex digit of n. The table is lent, since the compiler builds it anew wherever it is named.
+pub fn last_digit(table: &[u8; 16], n: u32) -> u8
+    ensures { λ r. ⌜ r ≡ getD (now (table .entry)) (n % 16) 0 ⌝ }
+{
+    table[(n % 16) as usize]
+}
+
 // As many digits as there are places, from the last to the first.
 fn spell(base: u64, n: u64, out: &mut [u8])
     requires { ⌜ (1 < base) × (base ≤ 16) ⌝ }
@@ -211,24 +231,10 @@ pub fn hex(n: u32) -> [u8; 8]
     digits
 }
 
-fn zeros_in(l: &[u8]) -> usize
-    ensures { λ r. ⌜ r ≡ zerosOf (now (l .entry)) ⌝ }
+pub fn half_hex(n: u16) -> [u8; 4]
+    ensures { λ r. ⌜ r ≡ halfText n ⌝ }
 {
-    let mut i: usize = 0;
-    while 1 < l.len() - i {
-        if l[i] != 48 {
-            return i;
-        }
-        i += 1;
-    }
-    i
-}
-
-pub fn spelled(n: u64) -> Spelling
-    ensures { λ r. ⌜ r ≡ record { digits = digitsOf 10 20 n; zeros = zerosOf (digitsOf 10 20 n) } ⌝ }
-{
-    let mut digits = [0u8; 20];
-    spell(10, n, &mut digits);
-    let zeros = zeros_in(&digits);
-    Spelling { digits, zeros }
+    let mut digits = [0u8; 4];
+    spell(16, n as u64, &mut digits);
+    digits
 }

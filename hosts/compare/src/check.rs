@@ -66,7 +66,7 @@ fn same_trace(one: &[Step], other: &[Step]) -> Result<(), Disagreement> {
 }
 
 /// Where bytes differ first.
-fn first_difference(one: &[u8], other: &[u8]) -> String {
+pub fn first_difference(one: &[u8], other: &[u8]) -> String {
     if one == other {
         return "equal".to_string();
     }

@@ -2,6 +2,7 @@
 
 mod cases;
 mod check;
+mod listing;
 mod machine;
 mod random;
 mod report;
@@ -14,7 +15,7 @@ use std::process::ExitCode;
 use std::time::{Duration, Instant};
 
 use cases::Cases;
-use check::check;
+use check::{check, Disagreement};
 use machine::{by_library, scrambled};
 use random::Random;
 use report::Reached;
@@ -69,17 +70,12 @@ fn many(n: u64, seed: u64) -> Verdict {
     let (cases, mut reached) = (Cases::new(), Reached::default());
     let (began, mut shown) = (Instant::now(), Instant::now());
     for index in 0..n {
-        let mut random = Random::new(seed, index);
-        let input = cases.case(&mut random);
-        match check(&input, &scrambled(&input, &mut random), by_library) {
-            Ok(agreement) => reached.add(input, agreement.outcome, agreement.told_apart),
-            Err(disagreement) => {
-                let text = format!(
-                    "case {index} of seed {seed}: {}\n{}\nalone: tools/compare --case {seed} {index}\n",
-                    disagreement.about, disagreement.text
-                );
-                return Verdict { text, good: false };
-            }
+        if let Err(Disagreement { about, text }) = compare(&cases, seed, index, &mut reached) {
+            let text = format!(
+                "case {index} of seed {seed}: {about}\n{text}\n\
+                 alone: tools/compare --case {seed} {index}\n"
+            );
+            return Verdict { text, good: false };
         }
         if shown.elapsed() > PAUSE {
             shown = Instant::now();
@@ -91,10 +87,30 @@ fn many(n: u64, seed: u64) -> Verdict {
     summary(n, seed, &reached)
 }
 
+/// Compares a case: its run, and the calls of its listing.
+fn compare(
+    cases: &Cases,
+    seed: u64,
+    index: u64,
+    reached: &mut Reached,
+) -> Result<(), Disagreement> {
+    let mut random = Random::new(seed, index);
+    let input = cases.case(&mut random);
+    let agreement = check(&input, &scrambled(&input, &mut random), by_library)?;
+    reached.add(input, agreement.outcome, agreement.told_apart);
+    for call in listing::calls(seed, index) {
+        let listed = listing::check(&call, listing::by_library)?;
+        reached.add_listing(&call.case, &listed);
+    }
+    Ok(())
+}
+
 fn summary(n: u64, seed: u64, reached: &Reached) -> Verdict {
     let missing = reached.missing();
     let last = match &missing[..] {
-        [] => "Every refusal, stop, entry and instruction was reached.".to_string(),
+        [] => {
+            "Every refusal, stop, entry, instruction and kind of listing was reached.".to_string()
+        }
         missing => format!("Not reached: {}.", missing.join(", ")),
     };
     let text = format!("{}{n} cases of seed {seed}: all agree.\n{last}\n", reached.text());
@@ -104,11 +120,13 @@ fn summary(n: u64, seed: u64, reached: &Reached) -> Verdict {
 /// Writes one case and compares it.
 fn one(seed: u64, index: u64) -> Verdict {
     let mut random = Random::new(seed, index);
-    let input = Cases::new().case(&mut random);
-    let other = scrambled(&input, &mut random);
-    let (verdict, good) = match check(&input, &other, by_library) {
-        Ok(_) => ("All agree.".to_string(), true),
+    let cases = Cases::new();
+    let input = cases.case(&mut random);
+    let shown = report::case(&input, &scrambled(&input, &mut random))
+        + &report::listing(&listing::calls(seed, index));
+    let (verdict, good) = match compare(&cases, seed, index, &mut Reached::default()) {
+        Ok(()) => ("All agree.".to_string(), true),
         Err(disagreement) => (format!("{}: {}", disagreement.about, disagreement.text), false),
     };
-    Verdict { text: format!("{}{verdict}\n", report::case(&input, &other)), good }
+    Verdict { text: format!("{shown}{verdict}\n"), good }
 }

@@ -1,12 +1,17 @@
 //! What is written: the coverage of many cases, and one case in full.
 
+mod listing;
+
+pub use listing::listing;
+
 use manik::Reply;
-use second::corpus::Coverage;
-use second::isa::{decode, needs_second};
+use second::corpus::{Coverage, ListCase, ListCoverage};
+use second::listing::line_at;
 use second::record;
 use second::run::Outcome;
 use second::step::{step, Entry, Step};
 
+use crate::listing::{room_for_any, Listed};
 use crate::machine::{by_library, by_second, End, Input};
 
 /// What many cases reached.
@@ -16,6 +21,10 @@ pub struct Reached {
     out_of_shape: u64,
     told_apart: u64,
     steps: u64,
+    listings: ListCoverage,
+    /// Listings for which the library goes through the range once, and those for which twice.
+    one_pass: u64,
+    two_passes: u64,
 }
 
 impl Reached {
@@ -31,6 +40,18 @@ impl Reached {
         self.coverage.add(outcome, state, &mut memory, &mut marks, &tape);
     }
 
+    /// Counts the call of a listing on which both agreed.
+    pub fn add_listing(&mut self, case: &ListCase, listed: &Listed) {
+        self.listings.add(case, listed.answer(), &listed.buffer);
+        if listed.length > 0 {
+            let passes = match room_for_any(case) {
+                Some(least) if case.room >= least => &mut self.one_pass,
+                _ => &mut self.two_passes,
+            };
+            *passes += 1;
+        }
+    }
+
     /// Every line with its count.
     fn lines(&self) -> Vec<(&str, &str, u64)> {
         let lines =
@@ -39,7 +60,11 @@ impl Reached {
             ("record", "out of shape", self.out_of_shape),
             ("scrambled", "told apart", self.told_apart),
         ];
-        lines.chain(more).collect()
+        let passes = [
+            ("listed", "in one pass", self.one_pass),
+            ("listed", "in two passes", self.two_passes),
+        ];
+        lines.chain(more).chain(self.listings.lines.iter().copied()).chain(passes).collect()
     }
 
     /// The lines, parted by tabs, and the number of all steps.
@@ -56,8 +81,8 @@ impl Reached {
     }
 }
 
-/// The most steps and bytes that are written out.
-const MOST_STEPS: usize = 200;
+/// The most steps, or lines of a listing, and bytes that are written out.
+const MOST_LINES: usize = 200;
 const MOST_BYTES: usize = 1_024;
 
 /// A case in full: its input, what each step of the second program did, and both ends; then the
@@ -89,13 +114,16 @@ fn run(input: &Input) -> String {
     begin + &steps(input) + &library + &second
 }
 
-/// A line for each step of the second program, the one that stops among them; of very many the
-/// first and the last ones.
+/// A line for each step of the second program, the one that stops among them.
 fn steps(input: &Input) -> String {
-    let mut lines = step_lines(input);
-    if lines.len() > MOST_STEPS {
-        let (first, last) = (MOST_STEPS / 2, lines.len() - MOST_STEPS / 2);
-        lines.splice(first..last, [format!("steps {} to {last} are left out\n", first + 1)]);
+    shortened(step_lines(input), "steps")
+}
+
+/// The lines; of very many the first and the last ones.
+fn shortened(mut lines: Vec<String>, what: &str) -> String {
+    if lines.len() > MOST_LINES {
+        let (first, last) = (MOST_LINES / 2, lines.len() - MOST_LINES / 2);
+        lines.splice(first..last, [format!("{what} {} to {last} are left out\n", first + 1)]);
     }
     lines.concat()
 }
@@ -111,7 +139,7 @@ fn step_lines(input: &Input) -> Vec<String> {
     let Input { mut memory, mut marks, tape, budget, .. } = input.clone();
     let mut lines = Vec::new();
     for (number, &high) in (1..=budget).zip(&tape) {
-        let (pc, next) = (state.pc, instruction_at(&memory, state.pc));
+        let (pc, next) = (state.pc, listed_at(&memory, state.pc));
         match step(&mut state, &mut memory, &mut marks, high) {
             Ok(shown) if took_its_place(&shown) => {
                 lines.push(format!("step {number}: {shown:x?}\n"));
@@ -138,17 +166,17 @@ fn took_its_place(step: &Step) -> bool {
     }
 }
 
-/// The instruction at an address; of bits that are none or only the start of one, the first half.
-fn instruction_at(memory: &[u8], address: u32) -> String {
-    let half = |at: usize| Some(u16::from_be_bytes(memory.get(at..at + 2)?.try_into().ok()?));
-    let Some(first) = half(address as usize) else {
+/// The line of a listing at an address, without its newline. Memory of a run that is not refused
+/// can be listed.
+fn listed_at(memory: &[u8], address: u32) -> String {
+    let at = address as usize;
+    if at >= memory.len() {
         return "outside memory".to_string();
-    };
-    let instr = match half(address as usize + 2) {
-        None if needs_second(first) => None,
-        second => decode(first, second.unwrap_or(0)),
-    };
-    instr.map_or(format!("bits {first:04x}"), |instr| format!("{instr:x?}"))
+    }
+    if !at.is_multiple_of(2) {
+        return "at an odd address".to_string();
+    }
+    line_at(memory, at, memory.len()).0.as_str().trim_end().to_string()
 }
 
 /// The state of a record, a star behind what is marked; or its bytes if it is out of shape.

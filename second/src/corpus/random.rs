@@ -18,13 +18,18 @@ pub fn random(seed: u64, n: u32) -> Vec<Case> {
 }
 
 /// A small generator of pseudo-random words (splitmix64), the same in every run.
-struct Generator {
+pub(super) struct Generator {
     seed: u64,
     mnemonics: Vec<Instr>,
 }
 
 impl Generator {
-    fn word(&mut self) -> u32 {
+    /// A generator that draws every mnemonic equally often.
+    pub(super) fn new(seed: u64) -> Generator {
+        Generator { seed, mnemonics: mnemonics() }
+    }
+
+    pub(super) fn word(&mut self) -> u32 {
         self.seed = self.seed.wrapping_add(0x9e37_79b9_7f4a_7c15);
         let mixed = (self.seed ^ self.seed >> 30).wrapping_mul(0xbf58_476d_1ce4_e5b9);
         let mixed = (mixed ^ mixed >> 27).wrapping_mul(0x94d0_49bb_1331_11eb);
@@ -32,17 +37,17 @@ impl Generator {
     }
 
     /// A number below `limit`.
-    fn below(&mut self, limit: u32) -> u32 {
+    pub(super) fn below(&mut self, limit: u32) -> u32 {
         self.word() % limit
     }
 
     /// True once in `times`.
-    fn once_in(&mut self, times: u32) -> bool {
+    pub(super) fn once_in(&mut self, times: u32) -> bool {
         self.below(times) == 0
     }
 
     /// One of the values.
-    fn pick<T: Copy>(&mut self, values: &[T]) -> T {
+    pub(super) fn pick<T: Copy>(&mut self, values: &[T]) -> T {
         values[self.below(values.len() as u32) as usize]
     }
 
@@ -100,7 +105,7 @@ impl Generator {
     }
 
     /// An instruction with operands in range.
-    fn instruction(&mut self) -> Instr {
+    pub(super) fn instruction(&mut self) -> Instr {
         let place = self.below(self.mnemonics.len() as u32) as usize;
         let instr = self.mnemonics[place];
         let operands = match instr {

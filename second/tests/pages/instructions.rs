@@ -1,6 +1,7 @@
 //! The tables of instructions: bits, operands, ranges and flags; and the listing.
 
 use second::isa::{data_address, decode, encode, jump_target, mnemonics, Halves, Instr};
+use second::listing::line_at;
 use second::state::psw;
 use second::word::{sign_extend, Width};
 
@@ -278,6 +279,31 @@ fn the_listing_is_in_the_written_form() {
             let (line, bytes) = line(&table, next, half(&bits[..4]), second);
             assert_eq!(shown, line);
             next += bytes;
+        }
+    }
+}
+
+/// Every first half with some second halves, at the first address of an image, at the last, and in
+/// between.
+#[test]
+fn the_listing_of_this_program_is_made_of_the_page() {
+    let (table, mut image) = (table(), vec![0; 65_536]);
+    for first in 0..=u16::MAX {
+        let place = usize::from(first);
+        let seconds = if decode(first, 0).is_some_and(|instr| instr.size() == 4) {
+            &SECONDS[..]
+        } else {
+            &SECONDS[place % 8..=place % 8]
+        };
+        for &second in seconds {
+            let at = [0, 2, place / 2 * 2, 65_530, 65_532][(place + usize::from(second)) % 5];
+            let at = at.min(65_532);
+            image[at..at + 2].copy_from_slice(&first.to_be_bytes());
+            image[at + 2..at + 4].copy_from_slice(&second.to_be_bytes());
+            let (expected, bytes) = line(&table, at as u32, first, second);
+            let (shown, next) = line_at(&image, at, 65_536);
+            assert_eq!(shown.as_str(), expected + "\n");
+            assert_eq!(next, at + bytes as usize);
         }
     }
 }

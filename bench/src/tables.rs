@@ -1,0 +1,140 @@
+//! The tables of times, in Markdown.
+
+use std::time::Duration;
+
+use crate::images::{Image, IMAGES, SIZES};
+use crate::listings::{listings, Buffer, Lister, Listing, LONGEST};
+use crate::machine::{Library, Machine, Second, CALL};
+use crate::timing::in_turn;
+
+const STEPS_HEAD: &str = "\
+| Image | Memory | Library, million steps a second | Second program | Ratio \
+| Library over 24 MHz | Second program over 24 MHz |
+|---|---|---|---|---|---|---|
+";
+
+const LINES_HEAD: &str = "\
+| Listing of 64 KiB | Buffer | Library, million lines a second | Second program | Ratio |
+|---|---|---|---|---|
+";
+
+const RANGES_HEAD: &str = "\
+| Listing | Program | 16 KiB, nanoseconds a byte of the range | 32 KiB | 64 KiB \
+| 64 KiB over 16 KiB |
+|---|---|---|---|---|---|
+";
+
+/// How long a round lasts, about, with both programs.
+const ROUND: Duration = Duration::from_millis(500);
+
+/// The board's clock.
+const BOARD: f64 = 24e6;
+
+/// The lengths of ranges.
+const RANGES: [usize; 3] = [LONGEST / 4, LONGEST / 2, LONGEST];
+
+/// Measures every image and writes the table of steps.
+pub fn steps() {
+    let tape = vec![0; CALL];
+    print!("{STEPS_HEAD}");
+    for size in SIZES {
+        for image in IMAGES.map(|image| image(size)) {
+            let [library, second] = steps_a_second(&image, &tape);
+            let millions = [library, second].map(|speed| format!("{:.1}", speed / 1e6));
+            let factors = [library, second].map(|speed| format!("{:.1}", speed / BOARD));
+            println!(
+                "| {} | {} KiB | {} | {} | {:.2} | {} | {} |",
+                image.name,
+                size / 1024,
+                millions[0],
+                millions[1],
+                library / second,
+                factors[0],
+                factors[1],
+            );
+        }
+    }
+}
+
+/// The speeds of the library and of the second program.
+fn steps_a_second(image: &Image, tape: &[u8]) -> [f64; 2] {
+    let (mut library, mut second) = (Library::new(image), Second::new(image));
+    // Both programs have made as many steps, so they hold the same.
+    let same = |library: &Library, second: &Second| {
+        assert!(library.contents() == second.contents(), "{}: the programs differ", image.name);
+    };
+    library.run(tape);
+    second.run(tape);
+    same(&library, &second);
+    let times = in_turn(ROUND, [&mut || library.run(tape), &mut || second.run(tape)]);
+    same(&library, &second);
+    eprintln!("{}, {} bytes: measured", image.name, image.memory.len());
+    times.map(|time| tape.len() as f64 / time)
+}
+
+/// Measures every listing and writes two tables: lines a second, and how the time goes with the
+/// length of the range.
+pub fn listing() {
+    let (mut lines, mut ranges) = (LINES_HEAD.to_string(), RANGES_HEAD.to_string());
+    for listing in listings() {
+        let [library, second] = roomy(&listing);
+        lines += &lines_row(&listing, Buffer::Roomy, [library[2], second[2]]);
+        lines += &lines_row(&listing, Buffer::Exact, exact(&listing));
+        ranges += &ranges_row(&listing, "library", library);
+        ranges += &ranges_row(&listing, "second program", second);
+    }
+    print!("{lines}\n{ranges}");
+}
+
+/// The seconds of the library and of the second program, for each range, in a roomy buffer.
+fn roomy(listing: &Listing) -> [[f64; 3]; 2] {
+    let new = || RANGES.map(|range| Lister::new(listing, range, Buffer::Roomy));
+    let (mut library, mut second) = (new(), new());
+    let ([a, b, c], [d, e, f]) = (library.each_mut(), second.each_mut());
+    let times = in_turn(
+        ROUND,
+        [
+            &mut || a.by_library(),
+            &mut || d.by_second(),
+            &mut || b.by_library(),
+            &mut || e.by_second(),
+            &mut || c.by_library(),
+            &mut || f.by_second(),
+        ],
+    );
+    for (library, second) in library.iter().zip(&second) {
+        same(listing, library, second);
+    }
+    eprintln!("{}, roomy buffer: measured", listing.name);
+    let [a, d, b, e, c, f] = times;
+    [[a, b, c], [d, e, f]]
+}
+
+/// The seconds of the library and of the second program for the longest range, in a buffer that it
+/// fills.
+fn exact(listing: &Listing) -> [f64; 2] {
+    let new = || Lister::new(listing, LONGEST, Buffer::Exact);
+    let (mut library, mut second) = (new(), new());
+    let times = in_turn(ROUND, [&mut || library.by_library(), &mut || second.by_second()]);
+    same(listing, &library, &second);
+    eprintln!("{}, exact buffer: measured", listing.name);
+    times
+}
+
+fn same(listing: &Listing, library: &Lister, second: &Lister) {
+    assert!(library.buffer == second.buffer, "{}: the programs differ", listing.name);
+}
+
+fn lines_row(listing: &Listing, buffer: Buffer, [library, second]: [f64; 2]) -> String {
+    let lines = listing.lines(LONGEST) as f64;
+    let [fast, slow] = [library, second].map(|time| lines / time / 1e6);
+    let (name, buffer) = (listing.name, buffer.name());
+    format!("| {name} | {buffer} | {fast:.1} | {slow:.1} | {:.2} |\n", second / library)
+}
+
+fn ranges_row(listing: &Listing, program: &str, times: [f64; 3]) -> String {
+    let [short, middle, long] =
+        std::array::from_fn(|place| times[place] * 1e9 / RANGES[place] as f64);
+    let name = listing.name;
+    format!("| {name} | {program} | {short:.2} | {middle:.2} | {long:.2} | {:.2} |\n", long / short)
+}

@@ -1,0 +1,11 @@
+-- A text as its bytes.
+-- Assumes nothing.
+use Prim.Native.Nat.{ℕ}
+use Prim.Native.Char.{code}
+use Prim.Native.String.{String, [] as none, _∷_ as _then_}
+use mathlib.Core.List.{List, [], _∷_}
+
+-- a quoted text's bytes, one for each letter; all of ours are ASCII
+abbrev pub ascii : String → List ℕ
+ascii none = []
+ascii (c then s) = code c ∷ ascii s
