@@ -8,10 +8,14 @@ use crate::Event;
 use cpu::Control;
 use cpu::Entry;
 
-// The lines that are high and enabled are six bits; one bit more, above them, ends the count where there is none.
+// The lines that are high and enabled are six bits; one bit more, above them, ends the count where there is none. In most steps no
+// line is high; asked first, that leaves the machine's loop as it was.
 fn lowest_line(t: u32, p: u32) -> u32
     ensures { λ r. ⌜ r ≡ lowest 6 0 t p ⌝ }
 {
+    if t == 0 {
+        return 6;
+    }
     let lines = t % 64 & p / 1048576 % 64;
     u32::trailing_zeros(lines + 64)
 }
