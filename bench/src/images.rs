@@ -9,19 +9,27 @@ pub struct Image {
     pub state: State,
     pub memory: Vec<u8>,
     pub marks: Vec<u8>,
+    /// The lines, step by step, again and again.
+    lines: &'static [u8],
 }
 
 /// The sizes of memory.
 pub const SIZES: [usize; 2] = [4_096, 65_536];
 
 /// What makes each image in a memory of a size.
-pub const IMAGES: [fn(usize) -> Image; 5] =
-    [add_compare_branch, byte_copy, shift_multiply_conditional, recipe, interrupts];
+pub const IMAGES: [fn(usize) -> Image; 6] = [
+    add_compare_branch,
+    byte_copy,
+    shift_multiply_conditional,
+    recipe,
+    timer_interrupts,
+    external_lines,
+];
 
 /// An image with code from address 0 on and some registers set.
 fn image(name: &'static str, size: usize, code: &[Line], registers: &[(usize, u32)]) -> Image {
     let (memory, marks) = (vec![0; size], vec![0; size]);
-    let mut image = Image { name, state: State::fresh(), memory, marks };
+    let mut image = Image { name, state: State::fresh(), memory, marks, lines: &[0] };
     image.place(0, code);
     for &(number, value) in registers {
         image.state.registers[number].value = value;
@@ -30,6 +38,13 @@ fn image(name: &'static str, size: usize, code: &[Line], registers: &[(usize, u3
 }
 
 impl Image {
+    /// The tape of a run; copied in large pieces, since its making is counted with the steps.
+    pub fn tape(&self, steps: usize) -> Vec<u8> {
+        let mut tape = self.lines.repeat(steps.div_ceil(self.lines.len()));
+        tape.truncate(steps);
+        tape
+    }
+
     /// Puts bytes, two hexadecimal digits each.
     fn put(&mut self, address: usize, digits: &str) {
         for (place, digits) in (address..).zip(digits.as_bytes().chunks(2)) {
@@ -119,7 +134,7 @@ fn hex(digits: &str) -> usize {
 }
 
 /// A loop that the timer leaves every few steps; its handler arms the timer again and returns.
-fn interrupts(size: usize) -> Image {
+fn timer_interrupts(size: usize) -> Image {
     let code: &[Line] = &[
         ("add", &[1, 3]),
         ("xor", &[2, 1]),
@@ -136,6 +151,24 @@ fn interrupts(size: usize) -> Image {
     image
 }
 
+/// The same loop with all lines enabled. One is high in five steps of eight, most often the last
+/// one; the handler returns at once.
+fn external_lines(size: usize) -> Image {
+    let code: &[Line] = &[
+        ("add", &[1, 3]),
+        ("xor", &[2, 1]),
+        ("cmphs", &[2, 1]),
+        ("addit", &[4, 1]),
+        ("sj", &[-4]),
+    ];
+    let mut image = image("external lines", size, code, &[(3, 1)]);
+    image.place(0x10c, &[("jsfr", &[2])]);
+    image.state.ibase = 0x100;
+    image.state.psw = psw::IE | 0x3f << 20;
+    image.lines = &[0x20, 0, 0x20, 0x30, 0, 0x28, 0, 0x20];
+    image
+}
+
 #[cfg(test)]
 mod tests {
     use second::run::run_observed;
@@ -143,16 +176,17 @@ mod tests {
 
     use super::*;
 
-    /// Runs an image with all lines low: how often each address and the timer's entry came.
+    /// Runs an image on its tape: how often each address, and an interrupt's entry, came.
     fn observe(image: &mut Image, budget: usize) -> (Vec<u64>, u64) {
+        let tape = image.tape(budget);
         let Image { state, memory, marks, .. } = image;
-        let (mut visits, mut timer) = (vec![0; memory.len()], 0);
-        let outcome = run_observed(state, memory, marks, &vec![0; budget], budget as u64, |step| {
+        let (mut visits, mut entries) = (vec![0; memory.len()], 0);
+        let outcome = run_observed(state, memory, marks, &tape, budget as u64, |step| {
             visits[step.pc as usize] += 1;
-            timer += u64::from(step.entry == Some(Entry::Timer));
+            entries += u64::from(matches!(step.entry, Some(Entry::Timer | Entry::External(_))));
         });
         assert_eq!((outcome.reply.number(), outcome.steps), (10, budget as u64));
-        (visits, timer)
+        (visits, entries)
     }
 
     #[test]
@@ -185,7 +219,13 @@ mod tests {
 
     #[test]
     fn the_timer_interrupts_every_few_steps() {
-        let (_, entries) = observe(&mut interrupts(4_096), 100_000);
+        let (_, entries) = observe(&mut timer_interrupts(4_096), 100_000);
         assert!((5_000..20_000).contains(&entries), "{entries} entries");
+    }
+
+    #[test]
+    fn a_line_interrupts_every_few_steps() {
+        let (_, entries) = observe(&mut external_lines(4_096), 100_000);
+        assert!((15_000..40_000).contains(&entries), "{entries} entries");
     }
 }

@@ -65,7 +65,7 @@ fn name_images() -> Option<()> {
 fn steps(number: &str, size: &str, program: &str, budget: &str) -> Option<()> {
     let size = size.parse().ok().filter(|size| SIZES.contains(size))?;
     let image = IMAGES.get(number.parse::<usize>().ok()?)?(size);
-    let tape = vec![0; budget.parse().ok()?];
+    let tape = image.tape(budget.parse().ok()?);
     match program {
         "library" => Library::new(&image).run(&tape),
         "second" => Second::new(&image).run(&tape),

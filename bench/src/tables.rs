@@ -35,11 +35,10 @@ const RANGES: [usize; 3] = [LONGEST / 4, LONGEST / 2, LONGEST];
 
 /// Measures every image and writes the table of steps.
 pub fn steps() {
-    let tape = vec![0; CALL];
     print!("{STEPS_HEAD}");
     for size in SIZES {
         for image in IMAGES.map(|image| image(size)) {
-            let [library, second] = steps_a_second(&image, &tape);
+            let [library, second] = steps_a_second(&image, &image.tape(CALL));
             let millions = [library, second].map(|speed| format!("{:.1}", speed / 1e6));
             let factors = [library, second].map(|speed| format!("{:.1}", speed / BOARD));
             println!(

@@ -52,19 +52,6 @@ mark-stays marks i m e = ap (set marks i) (sym (beq-true (getD marks i false) m 
 
 -- ---- the choice
 
--- one more line looked at, and none left
-pub lowest-more : (i t p : ℕ) → i < 6 → lowest (6 - i) i t p ≡ cond (on t i && on p (20 + i)) i (lowest (6 - (i + 1)) (i + 1) t p)
-unfolding lowest
-lowest-more i t p h =
-    let e : 6 - i ≡ suc (6 - (i + 1)) = omega arith in
-    rw e
-
-pub lowest-none : (i t p : ℕ) → 6 ≤ i → i ≤ 6 → lowest (6 - i) i t p ≡ i
-unfolding lowest
-lowest-none i t p h l =
-    let e : 6 - i ≡ 0 = omega arith in
-    rw e
-
 broken : (c : Control) → on (c .hwdbg) 2 ≡ false → on (c .hwdbg) 3 ≡ false → isBreak c ≡ false
 unfolding isBreak
 broken c a b = rw (a, b)

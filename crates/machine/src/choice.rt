@@ -1,7 +1,6 @@
 // The choice of a step: a permitted interrupt by its priority, else a breakpoint, else one instruction.
 ghost use mathlib.Core.Path.{_≡_};
 ghost use mathlib.Core.Bool.{true, not, _&&_};
-ghost use Prim.Native.Nat.{ℕ, _+_, _<_};
 ghost use Rattle.word.specs.Bits.{on};
 ghost use Rattle.machine.specs.Step.{lowest, orBreak, lineOr, chosen};
 ghost use Rattle.machine.specs.declared.Event.{Event};
@@ -9,24 +8,16 @@ use crate::Event;
 use cpu::Control;
 use cpu::Entry;
 
-fn is_taken(t: u32, p: u32, i: u32) -> bool
-    requires { ⌜ i < 6 ⌝ }
-    ensures { λ r. ⌜ r ≡ (on t i && on p (20 + i)) ⌝ }
-{
-    word::both(word::is_on(t, i), word::is_on(p, 20 + i))
-}
-
+// The lines that are high and enabled are six bits; one bit more, above them, ends the count where there is none. In most steps no
+// line is high; asked first, that leaves the machine's loop as it was.
 fn lowest_line(t: u32, p: u32) -> u32
     ensures { λ r. ⌜ r ≡ lowest 6 0 t p ⌝ }
 {
-    let mut i: u32 = 0;
-    while i < 6 {
-        if is_taken(t, p, i) {
-            return i;
-        }
-        i += 1;
+    if t == 0 {
+        return 6;
     }
-    i
+    let lines = t % 64 & p / 1048576 % 64;
+    u32::trailing_zeros(lines + 64)
 }
 
 fn break_or(c: Control) -> Event
