@@ -1,7 +1,7 @@
 -- The theorems of this crate, each with its statement; read this file alone with specs/. The proofs are in the files that it cites.
 -- Assumes nothing.
 use Prim.Native.Nat.{ℕ, _-_, _*_, _/_, _<_, _≤_}
-use mathlib.Core.Path.{_≡_, refl, ap, _∙_}
+use mathlib.Core.Path.{_≡_, refl, sym, ap, _∙_}
 use mathlib.Core.Bool.{Bool, true, false, cond}
 use mathlib.Core.List.{List, [], _∷_, _++_}
 use native.Mathlib.Omega.{arith}
@@ -20,7 +20,7 @@ use Rattle.text.specs.Words.{ascii}
 use Rattle.text.specs.Digits.{hexText, digitsOf, glyphOf, zerosOf, signedText}
 use Rattle.listing.specs.Names.{names, placeOf, lettersIn, nameAt}
 use Rattle.listing.specs.Listing.{rowOf, operandText, rowText, halfIn, secondIn, shownOf, entryAt, entriesOf, entriesIn, lineText, linesText, listingOf}
-use Rattle.listing.specs.Lent.{isOutOf, lengthOf, Answered, answered, listedOf}
+use Rattle.listing.specs.Lent.{isOutOf, numberOf, lengthOf, Answered, answered, listedOf}
 use Rattle.listing.specs.declared.Entry.{Entry}
 use Rattle.listing.specs.declared.Listed.{Listed}
 use Rattle.listing.specs.Parts.{Good}
@@ -123,7 +123,18 @@ module _ (m : List ℕ) (s e : ℕ) (l : List ℕ) where
   unfolding listedOf
   room-enough ok h = rw (ok, le-ltb (length l) (length (listingOf m s e)) (roomy m s e (length l) (good (length m) s e ok) h))
 
--- 7. An example: an instruction, one cut by the end, and two bytes that are none.
+-- 7. What is answered is determined: two results of `list`, and of `manik_list`, that satisfy what it ensures coincide.
+  pub list-determined : (x y : Listed) (a b : List ℕ) → answered x a ≡ listedOf m s e l → answered y b ≡ listedOf m s e l → (x ≡ y) × (a ≡ b)
+  list-determined x y a b p q = let r = p ∙ sym q in (ap (λ (z : Answered). z .listed) r, ap (λ (z : Answered). z .out) r)
+
+  pub call-determined : (x y v w : ℕ) (a b : List ℕ)
+      → x ≡ numberOf (listedOf m s e l .listed) → y ≡ numberOf (listedOf m s e l .listed)
+      → v ≡ lengthOf (listedOf m s e l .listed) → w ≡ lengthOf (listedOf m s e l .listed)
+      → a ≡ listedOf m s e l .out → b ≡ listedOf m s e l .out
+      → (x ≡ y) × (v ≡ w) × (a ≡ b)
+  call-determined x y v w a b p q r t f g = (p ∙ sym q, r ∙ sym t, f ∙ sym g)
+
+-- 8. An example: an instruction, one cut by the end, and two bytes that are none.
 pub an-example : listingOf (0x21 ∷ 0x2f ∷ 0xe3 ∷ 0xff ∷ 0xff ∷ 0xfe ∷ 0xfc ∷ 0x00 ∷ 0xe3 ∷ 0xff ∷ []) 0 10
     ≡ ascii "00000000\t212f\tadd\tr2\tr15\n00000002\te3fffffe\tjf\t-2\n00000006\tfc00\thalf\t0xfc00\n00000008\te3ff\thalf\t0xe3ff\n"
 unfolding linesText entriesOf entryAt lineText rowText operandText shownOf rowOf nameAt names lettersIn placeOf load decodeOf operandsOf kindOf digitsOf glyphOf zerosOf signedText

@@ -80,6 +80,7 @@ fn shown(at: ByteAddr, first: u16, d: Decoded) -> Shown
             place: place_of(first),
             row: row_of(at, i),
         },
+        // `half` stands in the table's last place, which no instruction has.
         Decoded::Nothing => Shown {
             long: false,
             place: 81,
