@@ -123,7 +123,7 @@ module _ (m : List ℕ) (s e : ℕ) (l : List ℕ) where
   unfolding listedOf
   room-enough ok h = rw (ok, le-ltb (length l) (length (listingOf m s e)) (roomy m s e (length l) (good (length m) s e ok) h))
 
--- 7. What is answered is determined: two results of `list`, and of `manik_list`, that satisfy what it ensures coincide.
+  -- 7. What is answered is determined: two results of `list`, and of `manik_list`, that satisfy what it ensures coincide.
   pub list-determined : (x y : Listed) (a b : List ℕ) → answered x a ≡ listedOf m s e l → answered y b ≡ listedOf m s e l → (x ≡ y) × (a ≡ b)
   list-determined x y a b p q = let r = p ∙ sym q in (ap (λ (z : Answered). z .listed) r, ap (λ (z : Answered). z .out) r)
 
