@@ -1,6 +1,7 @@
 //! The corpus of whole runs, as `docs/CORPUS.md` defines it: cases and their answers. Beside it,
-//! generated cases of a listing, which are no part of the file.
+//! generated cases of a listing and of the assembler, which are no part of the file.
 
+mod assembly;
 mod build;
 mod coverage;
 mod edges;
@@ -8,6 +9,7 @@ mod listing;
 mod random;
 mod trace;
 
+pub use assembly::{assembly_case, AssemblyCase, AssemblyCoverage};
 pub use build::{assemble, Line};
 pub use coverage::{coverage, Coverage};
 pub use edges::edges;

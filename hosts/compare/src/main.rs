@@ -1,5 +1,6 @@
 //! The comparer: fresh cases through the static library and through the second program.
 
+mod assembly;
 mod cases;
 mod check;
 mod listing;
@@ -87,7 +88,7 @@ fn many(n: u64, seed: u64) -> Verdict {
     summary(n, seed, &reached)
 }
 
-/// Compares a case: its run, and the calls of its listing.
+/// Compares a case: its run, the calls of its listing, and those of its text.
 fn compare(
     cases: &Cases,
     seed: u64,
@@ -102,15 +103,18 @@ fn compare(
         let listed = listing::check(&call, listing::by_library)?;
         reached.add_listing(&call.case, &listed);
     }
+    for call in assembly::calls(seed, index) {
+        let assembled = assembly::check(&call, assembly::by_library)?;
+        reached.add_text(&call, &assembled);
+    }
     Ok(())
 }
 
 fn summary(n: u64, seed: u64, reached: &Reached) -> Verdict {
     let missing = reached.missing();
     let last = match &missing[..] {
-        [] => {
-            "Every refusal, stop, entry, instruction and kind of listing was reached.".to_string()
-        }
+        [] => "Every refusal, stop, entry, instruction and kind of listing and text was reached."
+            .to_string(),
         missing => format!("Not reached: {}.", missing.join(", ")),
     };
     let text = format!("{}{n} cases of seed {seed}: all agree.\n{last}\n", reached.text());
@@ -123,7 +127,8 @@ fn one(seed: u64, index: u64) -> Verdict {
     let cases = Cases::new();
     let input = cases.case(&mut random);
     let shown = report::case(&input, &scrambled(&input, &mut random))
-        + &report::listing(&listing::calls(seed, index));
+        + &report::listing(&listing::calls(seed, index))
+        + &report::assembly(&assembly::calls(seed, index));
     let (verdict, good) = match compare(&cases, seed, index, &mut Reached::default()) {
         Ok(()) => ("All agree.".to_string(), true),
         Err(disagreement) => (format!("{}: {}", disagreement.about, disagreement.text), false),

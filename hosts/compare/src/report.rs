@@ -1,16 +1,22 @@
 //! What is written: the coverage of many cases, and one case in full.
 
+mod assembly;
 mod listing;
+mod texts;
 
+pub use assembly::assembly;
 pub use listing::listing;
 
 use manik::Reply;
-use second::corpus::{Coverage, ListCase, ListCoverage};
+use second::corpus::{AssemblyCase, Coverage, ListCase, ListCoverage};
 use second::listing::line_at;
 use second::record;
 use second::run::Outcome;
 use second::step::{step, Entry, Step};
 
+use texts::Texts;
+
+use crate::assembly::Assembled;
 use crate::listing::{room_for_any, Listed};
 use crate::machine::{by_library, by_second, End, Input};
 
@@ -25,6 +31,7 @@ pub struct Reached {
     /// Listings for which the library goes through the range once, and those for which twice.
     one_pass: u64,
     two_passes: u64,
+    texts: Texts,
 }
 
 impl Reached {
@@ -52,6 +59,11 @@ impl Reached {
         }
     }
 
+    /// Counts the call of an assembler on which both agreed.
+    pub fn add_text(&mut self, case: &AssemblyCase, assembled: &Assembled) {
+        self.texts.add(case, assembled);
+    }
+
     /// Every line with its count.
     fn lines(&self) -> Vec<(&str, &str, u64)> {
         let lines =
@@ -64,7 +76,8 @@ impl Reached {
             ("listed", "in one pass", self.one_pass),
             ("listed", "in two passes", self.two_passes),
         ];
-        lines.chain(more).chain(self.listings.lines.iter().copied()).chain(passes).collect()
+        let listings = self.listings.lines.iter().copied().chain(passes);
+        lines.chain(more).chain(listings).chain(self.texts.lines()).collect()
     }
 
     /// The lines, parted by tabs, and the number of all steps.

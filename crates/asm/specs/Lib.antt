@@ -1,0 +1,4 @@
+pub mod Form
+pub mod Says
+pub mod Assemble
+pub mod Parts
