@@ -251,15 +251,19 @@ fn write_timer(state: &mut State, value: u32) -> Effect {
     Effect::TimerWritten
 }
 
-/// jsfr: its target. "On jsfr of IPC, IP becomes 0", by Appendix B; the guide's interrupt chapter
-/// would bring BIP back.
+/// jsfr: its target. On jsfr of IPC "BIP goes to IP, and BIP becomes 0" (document 02, ticket 3, and
+/// the guide's interrupt chapter; document 01 and Appendix B only clear IP).
 #[inline]
 fn jump_to_sfr(state: &mut State, number: u32) -> Result<u32, Reply> {
     if number == sfr::PSW && state.flag_marked() {
         return Err(Reply::OperandMarked);
     }
     if number == sfr::IPC {
-        state.psw &= !psw::IP;
+        let in_progress = state.psw & psw::BIP != 0;
+        state.psw &= !(psw::IP | psw::BIP);
+        if in_progress {
+            state.psw |= psw::IP;
+        }
     }
     Ok(register_target(state.sfr(number)))
 }

@@ -155,9 +155,9 @@ written n v c =
     (cond (eqb n 6) (withHwdbg c (withField (c .hwdbg) 2 4 (fieldOf v 2 4)))
     (withSfr n c v)))
 
--- "On jsfr of IPC, IP becomes 0"
+-- jsfr of IPC: "BIP goes to IP, and BIP becomes 0" (document 02, ticket 3; the guide's interrupt chapter, page 15)
 unfoldable pub leave : ℕ → Control → Control
-leave n c = cond (eqb n 2) (withPsw c (withBit (c .psw) 3 false)) c
+leave n c = cond (eqb n 2) (withPsw c (withBit (withBit (c .psw) 3 (on (c .psw) 6)) 6 false)) c
 
 -- ---- instructions
 

@@ -93,7 +93,8 @@ fn leave_by(n: u32, c: Control) -> Control
     ensures { λ r. ⌜ r ≡ leave n c ⌝ }
 {
     if n == 2 {
-        with_psw(c, word::with_bit(c.psw, 3, false))
+        let p = word::with_bit(c.psw, 3, word::is_on(c.psw, 6));
+        with_psw(c, word::with_bit(p, 6, false))
     } else {
         c
     }

@@ -103,12 +103,18 @@ module _ (c : Control) (f : Form c) where
   bit : (i : ℕ) (b : Bool) → i + 1 ≤ 12 → Form (withPsw c (put (c .psw) i 1 (num b)))
   bit i b h = psw c f _ (under (c .psw) i 1 (num b) h (f .twelve))
 
+  -- the two bits that an entry or a return writes
+  two-bits : (i j : ℕ) (a b : Bool) → i + 1 ≤ 12 → j + 1 ≤ 12 → Form (withPsw c (put (put (c .psw) i 1 (num a)) j 1 (num b)))
+  two-bits i j a b h l = psw c f _ (under (put (c .psw) i 1 (num a)) j 1 (num b) l (under (c .psw) i 1 (num a) h (f .twelve)))
+
   enters : (low : ℕ) → low % 2 ≡ 0 → low < 256 → Form (enter low c)
   unfolding enter
-  enters low e l = pc _ (other _ saved 2 (c .pc) refl refl refl) (vector low c) (opened (c .ibase) low e l)
-    where
-      saved : Form (withPsw c (withBit (withBit (c .psw) 6 (on (c .psw) 3)) 3 true))
-      saved = psw c f _ (under (put (c .psw) 6 1 (num (on (c .psw) 3))) 3 1 1 (lit≤ tt) (under (c .psw) 6 1 (num (on (c .psw) 3)) (lit≤ tt) (f .twelve)))
+  enters low e l =
+      pc
+      _
+      (other _ (two-bits 6 3 (on (c .psw) 3) true (lit≤ tt) (lit≤ tt)) 2 (c .pc) refl refl refl)
+      (vector low c)
+      (opened (c .ibase) low e l)
 
   onwards : (n : ℕ) → n % 2 ≡ 0 → Form (onward n c)
   unfolding onward
@@ -169,8 +175,8 @@ module _ (c : Control) (f : Form c) where
   unfolding leave
   leaves n = go (eqb n 2)
     where
-      go : (t : Bool) → Form (cond t (withPsw c (withBit (c .psw) 3 false)) c)
-      go true = bit c f 3 false (lit≤ tt)
+      go : (t : Bool) → Form (cond t (withPsw c (withBit (withBit (c .psw) 3 (on (c .psw) 6)) 6 false)) c)
+      go true = two-bits c f 3 6 (on (c .psw) 6) false (lit≤ tt) (lit≤ tt)
       go false = f
 
   kept-psw : (v : ℕ) → on (pswWritten (c .psw) v) 12 ≡ false

@@ -1,7 +1,7 @@
 -- Theorems on the machine's definitions, each with its statement; read this file alone with specs/. The proofs are in the files that it cites.
 -- Assumes nothing.
-use Prim.Native.Nat.{ℕ, suc, _+_, _%_, _<_}
-use mathlib.Core.Path.{_≡_, refl, sym, subst, _∙_}
+use Prim.Native.Nat.{ℕ, suc, _+_, _*_, _/_, _%_, _<_}
+use mathlib.Core.Path.{_≡_, refl, sym, ap, subst, _∙_}
 use mathlib.Core.Bool.{Bool, true, false, not, _&&_, _||_}
 use mathlib.Core.List.{List}
 use native.Mathlib.Omega.{arith}
@@ -27,10 +27,10 @@ use Rattle.machine.specs.declared.Line.{Line}
 use Rattle.trace.specs.declared.Seen.{Seen}
 use Rattle.laws.specs.Form.{Form}
 use Rattle.laws.specs.Cut.{resume}
-use Rattle.laws.specs.Shows.{Shows, Bits, ChangedAt}
+use Rattle.laws.specs.Shows.{Shows, Entered, Bits, Returned, backFrom, ChangedAt}
 use Rattle.laws.proofs.Keeps.{run-keeps}
 use Rattle.laws.proofs.Cut.{cut}
-use Rattle.laws.proofs.Trace.{Told, told, entry-bits, run-counted, nth-line}
+use Rattle.laws.proofs.Trace.{Told, told, entry-bits, return-bits, run-counted, nth-line}
 
 -- 1. A refusal changes nothing and counts 0 steps.
 pub refusal-changes-nothing : (b : ℕ) (t : List ℕ) (s : State) (m k : List ℕ) (r : Reply)
@@ -109,3 +109,21 @@ a-line-is-true t s m k d l j x e = subst (Told t s m k) e (told t s m k)
 -- 8. An entry has its vector and its bits.
 pub an-entry-by-its-bits : (e : Entry) (c : Control) → Bits e c (entered e c)
 an-entry-by-its-bits = entry-bits
+
+-- 9. jsfr of IPC goes back to IPC, brings IP back from BIP and makes BIP 0 ..
+pub a-return-by-its-bits : (c : Control) → Returned c (backFrom c)
+a-return-by-its-bits = return-bits
+
+-- .. so an entry and its return give back the program counter and IP ..
+pub an-entry-returns : (low : ℕ) (c n : Control) → c .pc % 2 ≡ 0 → Entered low c n
+    → (backFrom n .pc ≡ c .pc) × (on (backFrom n .psw) 3 ≡ on (c .psw) 3)
+an-entry-returns low c n e i =
+    let r : Returned n (backFrom n) = return-bits n in
+    let p : c .pc / 2 * 2 ≡ c .pc = omega arith in (
+      r .pc ∙ ap (λ (x : ℕ). x / 2 * 2) (i .ipc) ∙ p,
+      r .ip ∙ i .bip,
+    )
+
+-- .. and a second return finds IP 0, whatever it was: BIP keeps one bit, so of two nested entries the outer one's IP is lost.
+pub a-second-return-clears : (c : Control) → on (backFrom (backFrom c) .psw) 3 ≡ false
+a-second-return-clears c = return-bits (backFrom c) .ip ∙ return-bits c .bip

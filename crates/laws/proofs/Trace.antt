@@ -1,6 +1,6 @@
 -- The trace is what the steps gave.
 -- Assumes nothing.
-use Prim.Native.Nat.{ℕ, zero, suc, _+_, _≤_, _<_}
+use Prim.Native.Nat.{ℕ, zero, suc, _+_, _%_, _^_, _≤_, _<_}
 use mathlib.Core.Path.{_≡_, refl, ap, _∙_}
 use mathlib.Core.Bool.{Bool, true, false, cond}
 use mathlib.Core.List.{List}
@@ -17,7 +17,7 @@ use Rattle.word.proofs.Memory.{store-kept}
 use Rattle.isa.specs.declared.Instr.{Instr}
 use Rattle.cpu.specs.Control.{pcOf, withPc, withSfr, withPsw, withHwdbg, withPending, tf}
 use Rattle.cpu.specs.Entries.{enter, entered}
-use Rattle.cpu.specs.Exec.{sourcesOf}
+use Rattle.cpu.specs.Exec.{goTo, leave, exec, sourcesOf}
 use Rattle.cpu.specs.declared.Control.{Control}
 use Rattle.cpu.specs.declared.Entry.{Entry}
 use Rattle.marks.specs.Marks.{taint, blocked}
@@ -38,7 +38,7 @@ use Rattle.machine.specs.declared.Event.{Event}
 use Rattle.machine.specs.declared.Judged.{Judged}
 use Rattle.machine.specs.declared.Line.{Line}
 use Rattle.trace.specs.declared.Seen.{Seen}
-use Rattle.laws.specs.Shows.{reachIn, effectIn, Shows, by-choice, by-instruction, Entered, Bits, ChangedAt}
+use Rattle.laws.specs.Shows.{reachIn, effectIn, Shows, by-choice, by-instruction, Entered, Bits, Returned, backFrom, ChangedAt}
 
 -- ---- one step and its line
 
@@ -99,6 +99,10 @@ module _ (t : ℕ) (s : State) (m k : List ℕ) where
 on-of : (n : ℕ) {p q : ℕ} → p ≡ q → eqb p n ≡ eqb q n
 on-of n e = ap (λ (x : ℕ). eqb x n) e
 
+flag-read : (b : Bool) → eqb (num b % 2 ^ 1) 1 ≡ b
+flag-read true = refl
+flag-read false = refl
+
 -- IP is written last, and BIP before it; a field below both or above both stays
 module _ (p : ℕ) (b : Bool) where
   abbrev saved : ℕ
@@ -107,44 +111,71 @@ module _ (p : ℕ) (b : Bool) where
   ip-set : on saved 3 ≡ true
   ip-set = on-of 1 (read-back (put p 6 1 (num b)) 3 1 1)
 
+  bip-set : on saved 6 ≡ b
+  bip-set = on-of 1 (kept-above (put p 6 1 (num b)) 3 1 1 6 1 (lit≤ tt) ∙ read-back p 6 1 (num b)) ∙ flag-read b
+
   low-kept : (i w : ℕ) → i + w ≤ 3 → fieldOf saved i w ≡ fieldOf p i w
   low-kept i w h = kept-below (put p 6 1 (num b)) 3 1 1 i w h ∙ kept-below p 6 1 (num b) i w (omega arith)
 
   high-kept : (i w : ℕ) → 7 ≤ i → fieldOf saved i w ≡ fieldOf p i w
   high-kept i w h = kept-above (put p 6 1 (num b)) 3 1 1 i w (omega arith) ∙ kept-above p 6 1 (num b) i w h
 
-enters : (low : ℕ) (c a : Control) → c .pc ≡ a .pc → c .ibase ≡ a .ibase → Entered low a (enter low c)
+-- c is what the entry's kind made of a
+enters : (low : ℕ) (c a : Control) → c .pc ≡ a .pc → c .ibase ≡ a .ibase → fieldOf (c .psw) 3 1 ≡ fieldOf (a .psw) 3 1 → Entered low a (enter low c)
 unfolding enter withPc withSfr
-enters low c a e f = record { vector = rw f; ipc = e; ip = ip-set (c .psw) (on (c .psw) 3) }
+enters low c a e f g =
+    record {
+      vector = rw f;
+      ipc = e;
+      ip = ip-set (c .psw) (on (c .psw) 3);
+      bip = bip-set (c .psw) (on (c .psw) 3) ∙ on-of 1 g;
+    }
+
+-- a field above bit 3 and a bit below it leave IP
+ip-kept : (p i w v j b : ℕ) → 4 ≤ i → j + 1 ≤ 3 → fieldOf (put (put p i w v) j 1 b) 3 1 ≡ fieldOf p 3 1
+ip-kept p i w v j b h l = kept-above (put p i w v) j 1 b 3 1 l ∙ kept-below p i w v 3 1 h
 
 pub entry-bits : (e : Entry) (c : Control) → Bits e c (entered e c)
 unfolding entered enter withPc withSfr withPending
 entry-bits Entry.Nothing c = refl
 entry-bits (Entry.Swint v) c =
     let p : ℕ = put (put (c .psw) 16 4 v) 0 1 1 in (
-      enters 4 (withPsw c p) c refl refl,
+      enters 4 (withPsw c p) c refl refl (ip-kept (c .psw) 16 4 v 0 1 (lit≤ tt) (lit≤ tt)),
       on-of 1 (low-kept p (on p 3) 0 1 (lit≤ tt) ∙ read-back (put (c .psw) 16 4 v) 0 1 1),
       high-kept p (on p 3) 16 4 (lit≤ tt) ∙ kept-above (put (c .psw) 16 4 v) 0 1 1 16 4 (lit≤ tt) ∙ read-back (c .psw) 16 4 v,
     )
 entry-bits (Entry.Debug hit) c =
     let p : ℕ = put (put (c .psw) 16 4 15) 0 1 0 in (
-      enters 4 (withHwdbg (withPsw c p) (withField (c .hwdbg) 6 3 hit)) c refl refl,
+      enters 4 (withHwdbg (withPsw c p) (withField (c .hwdbg) 6 3 hit)) c refl refl (ip-kept (c .psw) 16 4 15 0 0 (lit≤ tt) (lit≤ tt)),
       on-of 1 (low-kept p (on p 3) 0 1 (lit≤ tt) ∙ read-back (put (c .psw) 16 4 15) 0 1 0),
       high-kept p (on p 3) 16 4 (lit≤ tt) ∙ kept-above (put (c .psw) 16 4 15) 0 1 0 16 4 (lit≤ tt) ∙ read-back (c .psw) 16 4 15,
       read-back (c .hwdbg) 6 3 hit,
     )
 entry-bits Entry.Timer c =
     let p : ℕ = put (c .psw) 2 1 1 in (
-      enters 8 (withPending (withPsw c p) false) c refl refl,
+      enters 8 (withPending (withPsw c p) false) c refl refl (kept-above (c .psw) 2 1 1 3 1 (lit≤ tt)),
       on-of 1 (low-kept p (on p 3) 2 1 (lit≤ tt) ∙ read-back (c .psw) 2 1 1),
       refl,
     )
 entry-bits (Entry.External i) c =
     let p : ℕ = put (put (c .psw) 26 6 (lslOf 1 i)) 1 1 1 in (
-      enters 12 (withPsw c p) c refl refl,
+      enters 12 (withPsw c p) c refl refl (ip-kept (c .psw) 26 6 (lslOf 1 i) 1 1 (lit≤ tt) (lit≤ tt)),
       on-of 1 (low-kept p (on p 3) 1 1 (lit≤ tt) ∙ read-back (put (c .psw) 26 6 (lslOf 1 i)) 1 1 1),
       high-kept p (on p 3) 26 6 (lit≤ tt) ∙ kept-above (put (c .psw) 26 6 (lslOf 1 i)) 1 1 1 26 6 (lit≤ tt) ∙ read-back (c .psw) 26 6 (lslOf 1 i),
     )
+
+-- ---- the return from an entry
+
+pub return-bits : (c : Control) → Returned c (backFrom c)
+unfolding exec goTo leave withPc withSfr
+return-bits c =
+    let p : ℕ = c .psw in
+    let one : ℕ = put p 3 1 (num (on p 6)) in
+    record {
+      pc = refl;
+      ip = on-of 1 (kept-below one 6 1 0 3 1 (lit≤ tt) ∙ read-back p 3 1 (num (on p 6))) ∙ flag-read (on p 6);
+      bip = on-of 1 (read-back one 6 1 0);
+    }
 
 -- ---- the lines of a run
 

@@ -7,6 +7,8 @@ use mathlib.Core.List.{List}
 use lib.ListN.{getD}
 use Rattle.word.specs.Bits.{on, fieldOf}
 use Rattle.word.specs.Numbers.{lslOf}
+use Rattle.word.specs.Addresses.{alignedOf}
+use Rattle.word.specs.declared.Width.{Width}
 use Rattle.isa.specs.declared.Instr.{Instr}
 use Rattle.cpu.specs.Control.{pcOf}
 use Rattle.cpu.specs.Entries.{vector, entered, fallen}
@@ -44,11 +46,12 @@ pub data Shows (t : ℕ) (s : State) (m k : List ℕ) (d : Done) (x : Line) : Ty
       → d .control ≡ fallen (on (s .control .psw) 4 && not (effectIn i s m .wrote)) (entered (x .entry) (effectIn i s m .control))
       → Shows t s m k d x
 
--- an entry by its vector and its bits, from control part c to n: IPC, IP, the program counter, and what its kind sets
+-- an entry by its vector and its bits, from control part c to n: IPC, IP and BIP, the program counter, and what its kind sets
 pub record Entered (low : ℕ) (c n : Control) : Type 0 where
   pub vector : n .pc ≡ vector low c .0
   pub ipc : n .ipc ≡ c .pc
   pub ip : on (n .psw) 3 ≡ true
+  pub bip : on (n .psw) 6 ≡ on (c .psw) 3
 
 abbrev pub Bits : Entry → Control → Control → Type 0
 Bits Entry.Nothing c n = n ≡ c
@@ -56,6 +59,16 @@ Bits (Entry.Swint v) c n = Entered 4 c n × (on (n .psw) 0 ≡ true) × (fieldOf
 Bits (Entry.Debug hit) c n = Entered 4 c n × (on (n .psw) 0 ≡ false) × (fieldOf (n .psw) 16 4 ≡ 15) × (fieldOf (n .hwdbg) 6 3 ≡ hit % 8)
 Bits Entry.Timer c n = Entered 8 c n × (on (n .psw) 2 ≡ true) × (n .pending ≡ false)
 Bits (Entry.External i) c n = Entered 12 c n × (on (n .psw) 1 ≡ true) × (fieldOf (n .psw) 26 6 ≡ lslOf 1 i % 64)
+
+-- jsfr of IPC, from control part c to n: back at IPC, IP from BIP, BIP 0
+pub record Returned (c n : Control) : Type 0 where
+  pub pc : n .pc ≡ alignedOf Width.Half (record { 0 = c .ipc }) .0
+  pub ip : on (n .psw) 3 ≡ on (c .psw) 6
+  pub bip : on (n .psw) 6 ≡ false
+
+-- the control part that jsfr of IPC leaves
+abbrev pub backFrom : Control → Control
+backFrom c = exec (Instr.Jsfr 2) 0 0 0 c .control
 
 -- memory before and after a step changed only where its line says, in the (at most four) bytes from that address on
 abbrev pub ChangedAt : Data → List ℕ → List ℕ → Type 0

@@ -136,7 +136,13 @@ module _ {f : Flags} {a b : Control} (s : SameControl f a b) where
 
   pub leaves : (n : ℕ) → SameControl f (leave n a) (leave n b)
   unfolding leave
-  leaves n = pick (eqb n 2) (eqb n 2) refl (psw s _ _ (put-under (s .psw) 3 1 0 0 (lit≤ tt) refl)) s
+  leaves n =
+      pick
+      (eqb n 2)
+      (eqb n 2)
+      refl
+      (psw s _ _ (put-under (put-under (s .psw) 3 1 (num (on (a .psw) 6)) (num (on (b .psw) 6)) (lit≤ tt) (ap num (bit-under (s .psw) 6 (lit≤ tt)))) 6 1 0 0 (lit≤ tt) refl))
+      s
 
   pub accepts : accepted a ≡ accepted b
   accepts = ap₂ (λ (x y : Bool). not x || y) (bit-under (s .psw) 3 (lit≤ tt)) (bit-under (s .psw) 2 (lit≤ tt))

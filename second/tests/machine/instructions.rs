@@ -4,6 +4,7 @@
 use crate::rig::{access, byte_immediate, half, Rig, BUSY_PSW, LENGTH};
 
 const IP: u32 = 1 << 3;
+const BIP: u32 = 1 << 6;
 const TF: u32 = 1 << 8;
 const CY: u32 = 1 << 9;
 
@@ -488,7 +489,7 @@ fn jsfr_jumps_to_sfr_0_to_3_and_drops_bit_0() {
         rig.state.ipc = value;
         rig.assert_step(|after| {
             after.state.pc = value / 2 * 2;
-            after.state.psw &= !IP;
+            after.state.psw &= !BIP; // IP and BIP are 1 in this state
         });
         let mut rig = Rig::busy(&[0x1e03]);
         rig.state.timer = value;
@@ -496,29 +497,30 @@ fn jsfr_jumps_to_sfr_0_to_3_and_drops_bit_0() {
     }
 }
 
-/// By Appendix B: BIP doesn't come back, and it stays as it is.
+/// "BIP goes to IP, and BIP becomes 0" (document 02, ticket 3).
 #[test]
-fn on_jsfr_of_ipc_ip_becomes_0_and_bip_stays() {
-    for (before, after) in [(0, 0), (1 << 3, 0), (1 << 6, 1 << 6), (1 << 3 | 1 << 6, 1 << 6)] {
+fn on_jsfr_of_ipc_bip_goes_to_ip_and_becomes_0() {
+    for (before, after) in [(0, 0), (IP, 0), (BIP, IP), (IP | BIP, IP)] {
         let mut rig = Rig::with(&[0x1e02]);
         rig.state.psw = before;
         rig.assert_step(|rig| rig.state.psw = after);
     }
 }
 
-/// After a nested swint its return clears IP, and the line is entered at once again.
+/// After a nested swint the line's handler goes on, though the line is high; a second return finds
+/// IP 0.
 #[test]
-fn a_return_from_a_nested_entry_clears_ip() {
+fn a_return_from_a_nested_entry_brings_ip_back() {
     let mut rig = Rig::with(&[0x7110]);
     rig.place(4, &[0x1e02]); // the handler of swint: jsfr ipc
-    rig.place(12, &[0x1001, 0x7110]); // the handler of lines: swint 1
+    rig.place(12, &[0x1001, 0x7110, 0x1e02]); // the handler of lines: swint 1, movi, jsfr ipc
     rig.state.psw = 1 << 5 | 1 << 20;
     let mut places = Vec::new();
-    for _ in 0..4 {
+    for _ in 0..6 {
         assert_eq!(rig.run(&[1]), (10, 1));
         places.push(rig.state.pc);
     }
-    assert_eq!(places, [12, 4, 14, 12]);
+    assert_eq!(places, [12, 4, 14, 16, 14, 12]);
 }
 
 /// The displacement counts halfwords from the jump's own address, modulo 2^32.

@@ -5,8 +5,18 @@ use crate::corpus::Case;
 use crate::state::{hwdbg, psw, State};
 
 pub fn cases() -> Vec<Case> {
-    [lines(), line_choice(), breakpoints(), breakpoint_shows(), watchpoints(), no_watch(), swint()]
-        .concat()
+    [
+        lines(),
+        line_choice(),
+        breakpoints(),
+        breakpoint_shows(),
+        watchpoints(),
+        no_watch(),
+        swint(),
+        returns(),
+        nested(),
+    ]
+    .concat()
 }
 
 /// All six enable bits.
@@ -238,4 +248,59 @@ fn swint() -> Vec<Case> {
         cases.push(swint(&format!("swint {code}"), code).psw(psw::IE));
     }
     cases
+}
+
+/// jsfr of each SFR with each IP and BIP, and what the next step then takes.
+fn returns() -> Vec<Case> {
+    let mut cases = Vec::new();
+    for sfr in 0..4 {
+        for (ip, bip) in [(0, 0), (0, 1), (1, 0), (1, 1)] {
+            let bits = (ip * psw::IP) | (bip * psw::BIP);
+            let named = |what: &str| format!("jsfr sfr{sfr} with IP {ip} and BIP {bip}{what}");
+            let jump = |what: &str, psw| edge(named(what), &[("jsfr", &[sfr])]).psw(psw | bits);
+            cases.push(jump("", 0));
+            cases.push(jump(", in a busy PSW", BUSY_PSW & !(psw::IP | psw::BIP)));
+            if sfr == 0 {
+                continue; // PSW is no address of this memory
+            }
+            cases.push(
+                jump(", then a line", psw::IE | ENABLES)
+                    .state(|state| (state.ra, state.ipc, state.timer) = (0x10, 0x10, 0x10))
+                    .at(0x10, &[("movi", &[1, 16])])
+                    .lines(&[0, 63]),
+            );
+        }
+    }
+    cases
+}
+
+/// Entries inside handlers, and their returns.
+fn nested() -> Vec<Case> {
+    let open = psw::IE | psw::TE | ENABLES;
+    let handler = |name: &str| {
+        edge(name, &[("movi", &[1, 16])])
+            .psw(open)
+            .state(|state| (state.timer, state.pending) = (0, true))
+            .at(8, &[("swint", &[1]), ("movi", &[2, 7])])
+            .at(4, &[("jsfr", &[2])])
+    };
+    vec![
+        handler("swint in the timer handler, a line high after its return").lines(&[0, 0, 0, 63]),
+        handler("swint in the timer handler, a line high all the time").lines(&[0, 63, 63, 63]),
+        handler("swint in the timer handler, the timer due again")
+            .at(8, &[("mtsfr", &[3, 3]), ("swint", &[1]), ("movi", &[2, 7])])
+            .register(3, 1)
+            .steps(5),
+        handler("a breakpoint in the timer handler, and its return")
+            .state(broken(8, 0, hwdbg::BP0))
+            .lines(&[0, 63, 63, 63]),
+        handler("two returns lose the outer IP")
+            .at(4, &[("jsfr", &[2])])
+            .at(8, &[("swint", &[1]), ("jsfr", &[2]), ("movi", &[2, 7])])
+            .lines(&[0, 63, 63, 63, 63]),
+        handler("BIP written by mtsfr before the return")
+            .at(4, &[("mtsfr", &[0, 3]), ("jsfr", &[2])])
+            .register(3, open | psw::IP | psw::BIP)
+            .lines(&[0, 63, 63, 63, 63]),
+    ]
 }

@@ -1,13 +1,12 @@
 //! The files of `examples/` that `docs/BUILD31.md` walks through, and what that page says of them.
 
 use std::collections::BTreeSet;
-use std::fs;
-use std::path::Path;
 
-use second::listing::{list, LONGEST_LINE};
 use second::script::answer;
 use second::state::State;
 use second::step::step;
+
+use crate::files::{example, file, hex, image, listing, memory, values};
 
 /// The three builds.
 const BUILDS: [&str; 3] = ["build31.txt", "build32.txt", "leak.txt"];
@@ -23,28 +22,8 @@ const KEY: std::ops::Range<usize> = 0xd0..0xe0;
 
 const STARS: &str = "********";
 
-/// A file of the repository.
-fn file(place: &str) -> String {
-    let root = Path::new(env!("CARGO_MANIFEST_DIR")).join("..");
-    fs::read_to_string(root.join(place)).unwrap_or_else(|error| panic!("{place}: {error}"))
-}
-
-fn example(name: &str) -> String {
-    file(&format!("examples/{name}"))
-}
-
 fn page() -> String {
     file("docs/BUILD31.md")
-}
-
-/// The answer's values on the lines with these names; of a register that isn't written, eight zeros.
-fn values<const N: usize>(input: &str, names: [&str; N]) -> [String; N] {
-    let answer = answer(input.as_bytes());
-    names.map(|name| {
-        let start = format!("{name}\t");
-        let value = answer.lines().find_map(|line| line.strip_prefix(&start));
-        value.unwrap_or("00000000").into()
-    })
 }
 
 /// The input with one more line before `run`.
@@ -61,28 +40,6 @@ fn without_marks(input: &str) -> String {
 fn differences<'t>(left: &'t str, right: &'t str) -> Vec<(&'t str, &'t str)> {
     assert_eq!(left.lines().count(), right.lines().count());
     left.lines().zip(right.lines()).filter(|(left, right)| left != right).collect()
-}
-
-/// Memory as the lines of an input fill it.
-fn memory(input: &str) -> Vec<u8> {
-    let mut memory = Vec::new();
-    for line in input.lines() {
-        match line.split('\t').collect::<Vec<_>>()[..] {
-            ["mem", size] => memory.resize(size.parse().expect("a decimal"), 0),
-            ["at", address, bytes] => {
-                let start = usize::from_str_radix(address, 16).expect("an address");
-                let bytes = hex(bytes);
-                memory[start..start + bytes.len()].copy_from_slice(&bytes);
-            }
-            _ => {}
-        }
-    }
-    memory
-}
-
-fn hex(digits: &str) -> Vec<u8> {
-    let byte = |i| u8::from_str_radix(&digits[i..i + 2], 16).expect("two hex digits");
-    (0..digits.len()).step_by(2).map(byte).collect()
 }
 
 #[test]
@@ -318,8 +275,7 @@ fn listings() -> Vec<(Vec<&'static str>, Shown)> {
 #[test]
 fn images_are_what_the_files_hold() {
     for name in BUILDS {
-        let image = format!("../examples/{}", name.replace(".txt", ".image"));
-        let image = fs::read(Path::new(env!("CARGO_MANIFEST_DIR")).join(image)).expect("an image");
+        let image = image(&name.replace(".txt", ".image"));
         assert_eq!(image, memory(&example(name)), "{name}");
     }
 }
@@ -338,9 +294,7 @@ fn the_listings_are_what_the_files_hold() {
             if !named.is_empty() && !named.contains(&name) {
                 continue;
             }
-            let mut out = vec![0; LONGEST_LINE * range.len()];
-            let length = list(&memory, range.start, range.end, &mut out).expect("a range");
-            assert_eq!(text, String::from_utf8_lossy(&out[..length]), "{name} {range:?}");
+            assert_eq!(text, listing(&memory, range.clone()), "{name} {range:?}");
             let addresses: Vec<&str> = text.lines().map(|line| &line[4..8]).collect();
             assert_eq!(addresses, explained, "{name} {range:?}");
             listed.extend(range);
