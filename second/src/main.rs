@@ -26,6 +26,8 @@ subcommands:
   corpus-cases     write the cases of the corpus of whole runs, in binary (docs/CORPUS.md)
   corpus-answers   write the answers to these cases
   corpus-coverage  write how often these cases reach each mnemonic, reply and entry
+  assembly-cases   write the cases of the assembler, in binary (docs/CORPUS.md)
+  assembly-answers write the answers to these cases
 ";
 
 /// What a call writes and its status, or why it can't.
@@ -50,6 +52,8 @@ fn answer(arguments: &[OsString]) -> Option<Answer> {
         ("corpus-cases", []) => Some(done(corpus::cases_file())),
         ("corpus-answers", []) => Some(done(corpus::answers_file())),
         ("corpus-coverage", []) => Some(done(corpus::coverage(&corpus::cases()).text())),
+        ("assembly-cases", []) => Some(done(corpus::assembly_cases_file())),
+        ("assembly-answers", []) => Some(done(corpus::assembly_answers_file())),
         _ => None,
     }
 }

@@ -182,6 +182,8 @@ fn the_corpus_subcommands_write_the_corpus() {
         ("corpus-cases", corpus::cases_file()),
         ("corpus-answers", corpus::answers_file().into_bytes()),
         ("corpus-coverage", coverage.into_bytes()),
+        ("assembly-cases", corpus::assembly_cases_file()),
+        ("assembly-answers", corpus::assembly_answers_file().into_bytes()),
     ];
     for (subcommand, expected) in outputs {
         let output = run(&[subcommand], b"");
@@ -203,6 +205,8 @@ fn the_usage_lists_every_subcommand() {
         "corpus-cases",
         "corpus-answers",
         "corpus-coverage",
+        "assembly-cases",
+        "assembly-answers",
     ];
     for subcommand in subcommands {
         assert!(usage.lines().any(|line| line.starts_with(&format!("  {subcommand}"))), "{usage}");

@@ -14,11 +14,11 @@ use Rattle.text.specs.Pages.{page, writeOn}
 use Rattle.expr.specs.Expr.{Labels, labels, none, indexOf, valueOf}
 use Rattle.expr.specs.declared.Read.{Read as Valued}
 use Rattle.expr.specs.declared.Value.{Value}
-use Rattle.asm.specs.Form.{linesOf, bodyOf, fieldAt, named, whatIn, shapeOf, numberAt, isKnownAs, isKnown}
-use Rattle.asm.specs.Says.{bitsOf, bitsAt, bytesIn}
-use Rattle.asm.specs.declared.What.{What}
-use Rattle.asm.specs.declared.Sort.{Sort}
-use Rattle.asm.specs.declared.Shape.{Shape}
+use Rattle.forms.specs.Form.{linesOf, bodyOf, fieldAt, named, whatIn, shapeOf, numberAt, isKnownAs, isKnown}
+use Rattle.forms.specs.Says.{bitsOf, bitsAt, bytesIn}
+use Rattle.forms.specs.declared.What.{What}
+use Rattle.forms.specs.declared.Sort.{Sort}
+use Rattle.forms.specs.declared.Shape.{Shape}
 use Rattle.asm.specs.declared.Refusal.{Refusal}
 use Rattle.asm.specs.declared.Checked.{Checked}
 use Rattle.asm.specs.declared.Assembled.{Assembled}

@@ -1,4 +1,2 @@
-pub mod Form
-pub mod Says
 pub mod Assemble
 pub mod Parts

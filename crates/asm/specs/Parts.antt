@@ -1,20 +1,10 @@
 -- Words that only helpers' contracts cite.
 -- Assumes nothing.
-use Prim.Native.Nat.{ℕ, suc}
-use mathlib.Core.Bool.{cond}
-use mathlib.Core.List.{List, [], _∷_}
-use lib.Dec.{eqb}
-use lib.ListN.{length, take}
+use Prim.Native.Nat.{ℕ}
+use mathlib.Core.List.{List, []}
+use lib.ListN.{length}
 use Rattle.expr.specs.Expr.{Labels}
 use Rattle.asm.specs.Assemble.{addressOf, verdictOf, codeOf, Answered, answered, imageAfter}
-
--- how many bytes the first line takes, its newline with them
-unfoldable pub lineSize : List ℕ → ℕ
-lineSize [] = 0
-lineSize (c ∷ s) = cond (eqb c 10) 1 (suc (lineSize s))
-
-abbrev pub firstLine : List ℕ → List ℕ
-firstLine s = take (lineSize s) s
 
 -- lines x from s on, with the labels t, where s is not outside the image
 unfoldable pub assembledWith : Labels → List (List ℕ) → ℕ → List ℕ → Answered

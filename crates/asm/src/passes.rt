@@ -5,18 +5,13 @@ ghost use mathlib.Core.List.{[]};
 ghost use lib.ListN.{length, take};
 ghost use Rattle.text.specs.Pages.{page, writeOn};
 ghost use Rattle.expr.specs.Expr.{labels, none};
-ghost use Rattle.asm.specs.Form.{linesOf, mnemonics};
+ghost use Rattle.forms.specs.Form.{linesOf, mnemonics};
 ghost use Rattle.asm.specs.Parts.{assembledWith};
-ghost use Rattle.asm.specs.Says.{bytesIn};
-ghost use Rattle.asm.specs.Assemble.{addressOf, withName, withLabel, labelFor, bytesFor, labelsOf, verdictOf, lineBytes, codeOf, isOutside, numberOf, replyOf, lineOf, endOf, answered, imageAfter, assembledOf};
+ghost use Rattle.forms.specs.Says.{bytesIn};
+ghost use Rattle.asm.specs.Assemble.{addressOf, withName, withLabel, labelFor, bytesFor, labelsOf, verdictOf, lineBytes, codeOf, isOutside, answered, imageAfter, assembledOf};
 use crate::Assembled;
 use crate::Checked;
 use crate::Refusal;
-use crate::What;
-use crate::fields::body;
-use crate::fields::line_at;
-use crate::form::is_known_as;
-use crate::form::what_of;
 use crate::lines::is_new;
 use crate::lines::label_in;
 use crate::lines::line_bits;
@@ -24,8 +19,13 @@ use crate::lines::line_check;
 use crate::lines::line_value;
 use crate::lines::room_check;
 use crate::lines::value_in;
-use crate::shapes::shape_of;
-use crate::shapes::table;
+use forms::What;
+use forms::body;
+use forms::is_known_as;
+use forms::line_at;
+use forms::shape_of;
+use forms::table;
+use forms::what_of;
 use isa::Encoded;
 use word::ByteAddr;
 
@@ -264,47 +264,4 @@ pub fn assemble(text: &[u8], start: usize, image: &mut [u8]) -> Assembled
     let mut places = [0u32; 256];
     let count = collect(text, &table, start, &mut keys, &mut places);
     assemble_with(text, &table, start, &keys[..count], &places[..count], image)
-}
-
-// 0, or the refusal's number.
-pub fn reply(a: Assembled) -> u32
-    ensures { λ r. ⌜ r ≡ replyOf a ⌝ }
-{
-    match a {
-        Assembled::Done(_, _) => 0,
-        Assembled::Refused(r, _) => number(r),
-    }
-}
-
-pub fn line(a: Assembled) -> usize
-    ensures { λ r. ⌜ r ≡ lineOf a ⌝ }
-{
-    match a {
-        Assembled::Done(lines, _) => lines,
-        Assembled::Refused(_, line) => line,
-    }
-}
-
-pub fn end(a: Assembled) -> usize
-    ensures { λ r. ⌜ r ≡ endOf a ⌝ }
-{
-    match a {
-        Assembled::Done(_, after) => after,
-        Assembled::Refused(_, _) => 0,
-    }
-}
-
-pub fn number(r: Refusal) -> u32
-    ensures { λ n. ⌜ n ≡ numberOf r ⌝ }
-{
-    match r {
-        Refusal::Start => 29,
-        Refusal::Form => 30,
-        Refusal::Deep => 31,
-        Refusal::Label => 32,
-        Refusal::Twice => 33,
-        Refusal::Many => 34,
-        Refusal::Value => 35,
-        Refusal::Room => 36,
-    }
 }

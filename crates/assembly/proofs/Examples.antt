@@ -13,8 +13,8 @@ use Rattle.isa.specs.Encode.{encodeOf, nibsOf, nibsByte, encodeShort, encodeLon
 use Rattle.listing.specs.Names.{names, lettersIn, nameAt}
 use Rattle.expr.specs.Value.{fitted, applied, combined, signedWord, written}
 use Rattle.expr.specs.Expr.{runOf, keyFrom, indexOf, meaning, sizeOf, onward, counted, wordRead, leafOf, joinedOf, chainOf, itemsOf, signOf, signedOf, closedOf, plainWith, operandWith, productWith, sumWith, insideOf, sumOf, valueOf, isWhole, isSum}
-use Rattle.asm.specs.Form.{ontoFirst, linesOf, tabsIn, fieldAt, namedFrom, mnemonics, byteOf, whatAt, whatOf, kindShape, shapeOf, numberedOf, numberAt, isOf, fitsShape, isKnownBody, isKnownAs}
-use Rattle.asm.specs.Says.{bitsOf, halvesTo, wordsTo, saysOf, bitsSaid, bitsAt, bytesIn}
+use Rattle.forms.specs.Form.{ontoFirst, linesOf, tabsIn, fieldAt, namedFrom, mnemonics, byteOf, whatAt, whatOf, kindShape, shapeOf, numberedOf, numberAt, isOf, fitsShape, isKnownBody, isKnownAs}
+use Rattle.forms.specs.Says.{bitsOf, halvesTo, wordsTo, saysOf, bitsSaid, bitsAt, bytesIn}
 use Rattle.asm.specs.Assemble.{sumAt, lineValue, lineBits, withName, withLabel, labelFor, bytesFor, labelsOf, labelCheck, valueCheck, lineCheck, roomCheck, verdictOf, valueIn, lineBytes, codeOf, answered, verdictIn, assembledOf}
 use Rattle.asm.specs.declared.Refusal.{Refusal}
 use Rattle.asm.specs.declared.Assembled.{Assembled}

@@ -12,7 +12,7 @@ use borrow.Author.Tests.{ltb-true, ltb-false, le-ltb, eq-eqb, eqb-true}
 use Rattle.word.specs.Addresses.{byteSum}
 use Rattle.word.specs.declared.ByteAddr.{ByteAddr}
 use Rattle.expr.specs.Expr.{Labels, labels, none, indexOf}
-use Rattle.asm.specs.Form.{whatIn, isKnown}
+use Rattle.forms.specs.Form.{whatIn, isKnown}
 use Rattle.asm.specs.Assemble.{addressOf, isSet, hasRoom, isNew, withLabel, labelFor, bytesFor, labelsOf}
 use Rattle.assembly.specs.Assembly.{placeOf, firstAt}
 use Rattle.assembly.proofs.Text.{address-on}

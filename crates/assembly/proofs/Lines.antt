@@ -24,10 +24,10 @@ use Rattle.isa.proofs.Theorems.{bits-decode}
 use Rattle.expr.specs.Expr.{Labels}
 use Rattle.expr.specs.declared.Read.{Read as Valued}
 use Rattle.expr.specs.declared.Value.{Value}
-use Rattle.asm.specs.Form.{bodyOf, kindShape, shapeOf, isKnownAs}
-use Rattle.asm.specs.Says.{bitsOf, halvesTo, wordsTo, scaled, saysOf, bitsSaid, bitsAt, bytesIn}
+use Rattle.forms.specs.Form.{bodyOf, kindShape, shapeOf, isKnownAs}
+use Rattle.forms.specs.Says.{bitsOf, halvesTo, wordsTo, scaled, saysOf, bitsSaid, bitsAt, bytesIn}
 use Rattle.asm.specs.Assemble.{lineValue, lineBits, labelIn, before, labelCheck, fitCheck, valueCheck, lineCheck, lineBytes, valueIn}
-use Rattle.asm.specs.declared.What.{What}
+use Rattle.forms.specs.declared.What.{What}
 use Rattle.asm.specs.declared.Refusal.{Refusal}
 use Rattle.asm.specs.declared.Checked.{Checked}
 use Rattle.assembly.specs.Assembly.{Decodes, Says}

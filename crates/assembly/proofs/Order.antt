@@ -13,9 +13,9 @@ use Rattle.isa.specs.declared.Encoded.{Encoded}
 use Rattle.expr.specs.Expr.{Labels}
 use Rattle.expr.specs.declared.Read.{Read as Valued}
 use Rattle.expr.specs.declared.Value.{Value}
-use Rattle.asm.specs.Form.{bodyOf, shapeOf, isKnownAs}
+use Rattle.forms.specs.Form.{bodyOf, shapeOf, isKnownAs}
 use Rattle.asm.specs.Assemble.{lineValue, lineBits, labelIn, isSet, hasRoom, numberOf, before, refusedIf, labelCheck, fitCheck, valueCheck, lineCheck, roomCheck}
-use Rattle.asm.specs.declared.What.{What}
+use Rattle.forms.specs.declared.What.{What}
 use Rattle.asm.specs.declared.Refusal.{Refusal}
 use Rattle.asm.specs.declared.Checked.{Checked}
 use Rattle.assembly.specs.Assembly.{isDeep, isUnknown, isUnfit, faultsOf, Lowest}

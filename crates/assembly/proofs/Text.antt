@@ -12,7 +12,7 @@ use borrow.Author.Tests.{ltb-false}
 use Rattle.word.specs.Addresses.{byteSum}
 use Rattle.word.specs.declared.ByteAddr.{ByteAddr}
 use Rattle.expr.specs.Expr.{Labels}
-use Rattle.asm.specs.Form.{linesOf, whatIn, shapeOf}
+use Rattle.forms.specs.Form.{linesOf, whatIn, shapeOf}
 use Rattle.asm.specs.Assemble.{addressOf, labelIn, withName, refusedIf, roomCheck, goOn, verdictOf, codeOf, isOutside, textLabels, verdictIn}
 use Rattle.asm.specs.declared.Refusal.{Refusal}
 use Rattle.asm.specs.declared.Checked.{Checked}

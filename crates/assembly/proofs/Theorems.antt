@@ -16,10 +16,10 @@ use Rattle.expr.specs.Expr.{Labels, none, meaning}
 use Rattle.expr.specs.Value.{signedWord}
 use Rattle.expr.specs.declared.Read.{Read as Valued}
 use Rattle.expr.specs.declared.Value.{Value}
-use Rattle.asm.specs.Form.{linesOf, bodyOf, shapeOf, isKnownAs}
-use Rattle.asm.specs.Says.{bytesIn}
+use Rattle.forms.specs.Form.{linesOf, bodyOf, shapeOf, isKnownAs}
+use Rattle.forms.specs.Says.{bytesIn}
 use Rattle.asm.specs.Assemble.{addressOf, lineValue, lineBits, isSet, labelsOf, replyOf, lineOf, endOf, lineCheck, roomCheck, valueIn, lineBytes, isOutside, textLabels, Answered, answered, verdictIn, assembledOf}
-use Rattle.asm.specs.declared.What.{What}
+use Rattle.forms.specs.declared.What.{What}
 use Rattle.asm.specs.declared.Refusal.{Refusal}
 use Rattle.asm.specs.declared.Checked.{Checked}
 use Rattle.asm.specs.declared.Assembled.{Assembled}

@@ -17,11 +17,11 @@ use Rattle.expr.specs.Expr.{Labels, isLetter, runOf, keyOf, indexOf, meaning, o
 use Rattle.expr.specs.declared.Read.{Read as Valued}
 use Rattle.expr.specs.declared.Value.{Value}
 use Rattle.expr.specs.declared.Fault.{Fault}
-use Rattle.asm.specs.Form.{fieldAt}
-use Rattle.asm.specs.Says.{bitsOf}
+use Rattle.forms.specs.Form.{fieldAt}
+use Rattle.forms.specs.Says.{bitsOf}
 use Rattle.asm.specs.Assemble.{sumAt, lineValue, zeroRead}
-use Rattle.asm.specs.declared.Sort.{Sort}
-use Rattle.asm.specs.declared.Shape.{Shape}
+use Rattle.forms.specs.declared.Sort.{Sort}
+use Rattle.forms.specs.declared.Shape.{Shape}
 
 -- a value, if it is one, is in 32 bits
 data Small : Value → Type 0 where

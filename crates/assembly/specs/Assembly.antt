@@ -16,10 +16,10 @@ use Rattle.isa.specs.declared.Encoded.{Encoded}
 use Rattle.expr.specs.Expr.{Labels, indexOf}
 use Rattle.expr.specs.declared.Read.{Read as Valued}
 use Rattle.expr.specs.declared.Value.{Value}
-use Rattle.asm.specs.Form.{linesOf, bodyOf, fieldAt, whatIn, kindShape, shapeOf, numberAt, isKnownAs, isKnown}
-use Rattle.asm.specs.Says.{bitsOf, saysOf, bytesIn}
+use Rattle.forms.specs.Form.{linesOf, bodyOf, fieldAt, whatIn, kindShape, shapeOf, numberAt, isKnownAs, isKnown}
+use Rattle.forms.specs.Says.{bitsOf, saysOf, bytesIn}
 use Rattle.asm.specs.Assemble.{addressOf, lineValue, lineBits, labelIn, isSet, hasRoom, withName, labelFor, bytesFor, numberOf, lineCheck, roomCheck, codeOf, textLabels}
-use Rattle.asm.specs.declared.What.{What}
+use Rattle.forms.specs.declared.What.{What}
 use Rattle.asm.specs.declared.Refusal.{Refusal}
 use Rattle.asm.specs.declared.Checked.{Checked}
 

@@ -17,7 +17,7 @@ use Rattle.listing.proofs.Lent.{good}
 use Rattle.columns.specs.Columns.{Bytes, bytesRead}
 use Rattle.columns.proofs.Theorems.{bits-give-back, bits-second}
 use Rattle.expr.specs.Expr.{Labels, none}
-use Rattle.asm.specs.Form.{linesOf}
+use Rattle.forms.specs.Form.{linesOf}
 use Rattle.asm.specs.Assemble.{addressOf, labelsOf, codeOf, textLabels, answered, verdictOf, verdictIn, assembledOf}
 use Rattle.asm.specs.declared.Assembled.{Assembled}
 use Rattle.reassembly.specs.Lines.{textFor}

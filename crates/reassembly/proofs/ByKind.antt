@@ -29,11 +29,11 @@ use Rattle.columns.proofs.Plain.{isPlain}
 use Rattle.columns.proofs.Bits.{fieldText}
 use Rattle.expr.specs.Expr.{Labels}
 use Rattle.expr.specs.Value.{signedWord}
-use Rattle.asm.specs.Form.{shape, kindShape, shapeOf}
-use Rattle.asm.specs.Says.{bitsOf, saysOf, bitsSaid, bitsAt}
+use Rattle.forms.specs.Form.{shape, kindShape, shapeOf}
+use Rattle.forms.specs.Says.{bitsOf, saysOf, bitsSaid, bitsAt}
 use Rattle.asm.specs.Assemble.{sumAt}
-use Rattle.asm.specs.declared.What.{What}
-use Rattle.asm.specs.declared.Sort.{Sort}
+use Rattle.forms.specs.declared.What.{What}
+use Rattle.forms.specs.declared.Sort.{Sort}
 use Rattle.reassembly.specs.Lines.{numberIn}
 use Rattle.reassembly.proofs.Numbers.{says-value, bits-signed}
 use Rattle.reassembly.proofs.Targets.{jump-not, jump-back, signed-not, word-not, word-back, offset-not, offset-back}

@@ -21,10 +21,10 @@ use Rattle.columns.specs.Columns.{Bytes, bitsText, bytesRead, joined}
 use Rattle.columns.proofs.Plain.{plain-name}
 use Rattle.columns.proofs.Bits.{operand-tab, plain-field}
 use Rattle.expr.specs.Expr.{Labels, none}
-use Rattle.asm.specs.Form.{linesOf, bodyOf, fieldAt, isLabel, named, whatOf, whatIn, shapeOf, isKnown, isKnownAs, isKnownBody}
-use Rattle.asm.specs.Says.{bytesIn}
+use Rattle.forms.specs.Form.{linesOf, bodyOf, fieldAt, isLabel, named, whatOf, whatIn, shapeOf, isKnown, isKnownAs, isKnownBody}
+use Rattle.forms.specs.Says.{bytesIn}
 use Rattle.asm.specs.Assemble.{lineValue, lineBits, labelIn, labelCheck, fitCheck, before, valueCheck, lineCheck, valueIn, lineBytes}
-use Rattle.asm.specs.declared.What.{What}
+use Rattle.forms.specs.declared.What.{What}
 use Rattle.asm.specs.declared.Checked.{Checked}
 use Rattle.reassembly.specs.Lines.{bodyFor, lineFor, whatShown, numberIn, bitsListed, Read}
 use Rattle.reassembly.proofs.Fields.{both, body-of, ended-by, field-label, isOne, one-append, one-plain, one-tab, lines-more, lines-none}

@@ -30,11 +30,11 @@ use Rattle.columns.proofs.Plain.{plain-name}
 use Rattle.columns.proofs.Bits.{fieldText, operand-tab}
 use Rattle.columns.proofs.Said.{Shows, whole, cut, shows}
 use Rattle.expr.specs.Expr.{Labels}
-use Rattle.asm.specs.Form.{fieldAt, whatAt, whatOf, kindShape, shapeOf}
-use Rattle.asm.specs.Says.{bitsOf, bitsAt}
+use Rattle.forms.specs.Form.{fieldAt, whatAt, whatOf, kindShape, shapeOf}
+use Rattle.forms.specs.Says.{bitsOf, bitsAt}
 use Rattle.asm.specs.Assemble.{sumAt}
-use Rattle.asm.specs.declared.What.{What}
-use Rattle.asm.specs.declared.Sort.{Sort}
+use Rattle.forms.specs.declared.What.{What}
+use Rattle.forms.specs.declared.Sort.{Sort}
 use Rattle.reassembly.specs.Lines.{numberIn}
 use Rattle.reassembly.proofs.Fields.{field-name}
 use Rattle.reassembly.proofs.Names.{placeBy, not-half, code-named, half-named}

@@ -17,8 +17,8 @@ use Rattle.isa.proofs.Theorems.{size-by-first-half}
 use Rattle.listing.specs.Names.{names, lettersIn, nameAt, placeOf, halfPlace}
 use Rattle.columns.proofs.Names.{same-kind, none-at-half}
 use Rattle.expr.specs.Expr.{runOf, keyFrom, indexOf}
-use Rattle.asm.specs.Form.{named, namedFrom, mnemonics, byteOf, whatAt}
-use Rattle.asm.specs.declared.What.{What}
+use Rattle.forms.specs.Form.{named, namedFrom, mnemonics, byteOf, whatAt}
+use Rattle.forms.specs.declared.What.{What}
 
 -- the place that a mnemonic names
 abbrev pub placeBy : List ℕ → ℕ

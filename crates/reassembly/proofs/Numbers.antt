@@ -16,7 +16,7 @@ use Rattle.expr.specs.Value.{fitted, applied, combined, negated, signedWord, wr
 use Rattle.expr.specs.declared.Read.{Read}
 use Rattle.expr.specs.declared.Value.{Value}
 use Rattle.expr.proofs.Laws.{items-all, operand-leaf}
-use Rattle.asm.specs.Says.{bitsOf}
+use Rattle.forms.specs.Says.{bitsOf}
 use Rattle.reassembly.proofs.Digits.{decimal-digits, decimal-some, digit-first, leaf-decimal, leaf-half, hexWord}
 
 -- an operand that is all of its text is a sum

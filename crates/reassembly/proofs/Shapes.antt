@@ -21,11 +21,11 @@ use Rattle.expr.specs.Expr.{Labels}
 use Rattle.expr.specs.Value.{signedWord}
 use Rattle.expr.specs.declared.Read.{Read as Valued}
 use Rattle.expr.specs.declared.Value.{Value}
-use Rattle.asm.specs.Form.{fieldAt, shape, shapeOf, numberedOf, numberAt, isOf, fieldsOf, fitsShape}
-use Rattle.asm.specs.Says.{bitsOf, bitsAt}
+use Rattle.forms.specs.Form.{fieldAt, shape, shapeOf, numberedOf, numberAt, isOf, fieldsOf, fitsShape}
+use Rattle.forms.specs.Says.{bitsOf, bitsAt}
 use Rattle.asm.specs.Assemble.{zeroRead, sumAt, lineValue, lineBits}
-use Rattle.asm.specs.declared.What.{What}
-use Rattle.asm.specs.declared.Sort.{Sort}
+use Rattle.forms.specs.declared.What.{What}
+use Rattle.forms.specs.declared.Sort.{Sort}
 use Rattle.reassembly.proofs.Fields.{field-first, field-only, field-second, field-last, field-third, tabs-one, tabs-two, tabs-three}
 use Rattle.reassembly.proofs.Numbers.{Says, says-sum, says-signed, says-half}
 

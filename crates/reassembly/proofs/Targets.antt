@@ -15,7 +15,7 @@ use Rattle.word.specs.declared.HalfDisp.{HalfDisp}
 use Rattle.word.specs.declared.Width.{Width}
 use Rattle.word.proofs.Numbers.{sign}
 use Rattle.cpu.specs.Exec.{dataAddress}
-use Rattle.asm.specs.Says.{scaled, halvesTo, wordsTo}
+use Rattle.forms.specs.Says.{scaled, halvesTo, wordsTo}
 
 low-mod : (r : ℕ) → r < 2 ^ 32 → r % 2 ^ 32 ≡ r
 low-mod r h = omega arith

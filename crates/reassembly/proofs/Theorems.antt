@@ -18,8 +18,8 @@ use Rattle.listing.specs.Lent.{isOutOf}
 use Rattle.listing.specs.declared.Entry.{Entry}
 use Rattle.columns.specs.Columns.{Bytes, bitsText, bytesRead, joined}
 use Rattle.expr.specs.Expr.{Labels, none}
-use Rattle.asm.specs.Form.{linesOf, whatIn, shapeOf, isKnown}
-use Rattle.asm.specs.Says.{bytesIn}
+use Rattle.forms.specs.Form.{linesOf, whatIn, shapeOf, isKnown}
+use Rattle.forms.specs.Says.{bytesIn}
 use Rattle.asm.specs.Assemble.{addressOf, labelIn, lineBytes, codeOf, textLabels, answered, verdictIn, assembledOf}
 use Rattle.asm.specs.declared.Assembled.{Assembled}
 use Rattle.reassembly.specs.Lines.{lineFor, whatShown, numberIn, bitsListed, Read, textFor}

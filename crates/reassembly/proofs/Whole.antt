@@ -15,7 +15,7 @@ use Rattle.listing.proofs.Ranged.{from, after, size-low, size-high, entries-mor
 use Rattle.columns.specs.Columns.{Bytes, bitsText, bytesRead, joined}
 use Rattle.columns.proofs.Cover.{even, size-inside}
 use Rattle.expr.specs.Expr.{Labels}
-use Rattle.asm.specs.Form.{whatIn, shapeOf}
+use Rattle.forms.specs.Form.{whatIn, shapeOf}
 use Rattle.asm.specs.Assemble.{addressOf, withName, withLabel, labelFor, bytesFor, labelsOf, roomCheck, verdictOf, codeOf}
 use Rattle.asm.specs.declared.Assembled.{Assembled}
 use Rattle.reassembly.specs.Lines.{lineFor}

@@ -18,10 +18,10 @@ use Rattle.columns.specs.Columns.{joined}
 use Rattle.expr.specs.Expr.{Labels}
 use Rattle.expr.specs.declared.Read.{Read as Valued}
 use Rattle.expr.specs.declared.Value.{Value}
-use Rattle.asm.specs.Form.{bodyOf, whatIn, shapeOf}
-use Rattle.asm.specs.Says.{bitsOf}
+use Rattle.forms.specs.Form.{bodyOf, whatIn, shapeOf}
+use Rattle.forms.specs.Says.{bitsOf}
 use Rattle.asm.specs.Assemble.{lineValue, lineBits}
-use Rattle.asm.specs.declared.What.{What}
+use Rattle.forms.specs.declared.What.{What}
 
 -- an empty label field, and the mnemonic and operand columns of a listing's line
 abbrev pub bodyFor : Entry → List ℕ

@@ -32,9 +32,16 @@ pub struct Reached {
     one_pass: u64,
     two_passes: u64,
     texts: Texts,
+    /// Whether texts alone are compared.
+    texts_alone: bool,
 }
 
 impl Reached {
+    /// What texts alone reach.
+    pub fn by_texts() -> Reached {
+        Reached { texts_alone: true, ..Reached::default() }
+    }
+
     /// Counts a case on which all agreed.
     pub fn add(&mut self, input: Input, outcome: Option<Outcome>, told_apart: bool) {
         self.told_apart += u64::from(told_apart);
@@ -66,6 +73,9 @@ impl Reached {
 
     /// Every line with its count.
     fn lines(&self) -> Vec<(&str, &str, u64)> {
+        if self.texts_alone {
+            return self.texts.lines().collect();
+        }
         let lines =
             self.coverage.lines.iter().map(|(kind, name, count)| (*kind, &name[..], *count));
         let more = [
@@ -84,7 +94,10 @@ impl Reached {
     pub fn text(&self) -> String {
         let line = |(kind, name, count)| format!("{kind}\t{name}\t{count}\n");
         let lines: String = self.lines().into_iter().map(line).collect();
-        lines + &format!("all\tsteps\t{}\n", self.steps)
+        match self.texts_alone {
+            true => lines,
+            false => lines + &format!("all\tsteps\t{}\n", self.steps),
+        }
     }
 
     /// The names of what was never reached.

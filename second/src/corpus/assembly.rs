@@ -3,14 +3,21 @@
 
 mod coverage;
 mod draft;
+mod edges;
 mod expressions;
 mod faults;
 mod misfits;
 mod places;
 mod slips;
+mod stored;
 mod texts;
 
 pub use coverage::AssemblyCoverage;
+pub use edges::{assembly_edges, AssemblyEdge};
+pub use stored::{
+    assembly_answers_file, assembly_cases, assembly_cases_file, LONGEST_ASSEMBLY_IMAGE,
+    LONGEST_ASSEMBLY_TEXT,
+};
 
 use super::random::Generator;
 use crate::assemble::{assemble, Assembled, Refused};

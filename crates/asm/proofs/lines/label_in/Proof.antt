@@ -1,4 +1,4 @@
-use Rattle.asm.specs.Form.{fieldAt}
+use Rattle.forms.specs.Form.{fieldAt}
 use borrow.Author.Needs.{needs}
 use Rattle.asm.proofs.lines.label_in.Statement.{statement}
 use Rattle.asm.proofs.lines.label_in.Tie as tie

@@ -1,8 +1,8 @@
 use mathlib.Core.Path.{ap, _∙_}
 use mir.Syntax.{w32}
 use mir.ValLaws.{toZ-ofZ}
-use Rattle.asm.specs.Says.{bitsOf}
-use Rattle.asm.specs.Form.{fieldAt}
+use Rattle.forms.specs.Says.{bitsOf}
+use Rattle.forms.specs.Form.{fieldAt}
 use Rattle.asm.specs.Assemble.{lineBits}
 use borrow.Author.Needs.{needs}
 use Rattle.asm.proofs.lines.line_bits.Statement.{statement}

@@ -1,4 +1,4 @@
-use Rattle.asm.specs.Form.{fieldAt}
+use Rattle.forms.specs.Form.{fieldAt}
 use Rattle.asm.specs.Assemble.{lineValue}
 use borrow.Author.Needs.{needs}
 use Rattle.asm.proofs.lines.line_value.Statement.{statement}

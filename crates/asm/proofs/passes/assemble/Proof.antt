@@ -2,7 +2,7 @@ use mathlib.Core.Path.{sym, ap, _∙_}
 use native.Mathlib.Omega.{arith}
 use lib.Seq.{length-take-le}
 use Rattle.expr.specs.Expr.{Labels}
-use Rattle.asm.specs.Form.{linesOf}
+use Rattle.forms.specs.Form.{linesOf}
 use Rattle.asm.specs.Assemble.{verdictIn, assembledOf}
 use Rattle.asm.specs.Parts.{assembledWith}
 use Rattle.asm.proofs.Laws.{not-outside}

@@ -1,6 +1,6 @@
 use mathlib.Core.Path.{ap, ap₂, _∙_}
 use Rattle.expr.specs.Expr.{labels}
-use Rattle.asm.specs.Form.{linesOf}
+use Rattle.forms.specs.Form.{linesOf}
 use Rattle.asm.specs.Assemble.{addressOf, codeOf, answered, imageAfter}
 use Rattle.asm.specs.Parts.{assembledWith}
 use Rattle.asm.specs.declared.Assembled.{Assembled}

@@ -4,9 +4,10 @@ use native.Mathlib.Omega.{arith}
 use lib.ListN.{length, take, drop}
 use borrow.Author.Needs.{needs}
 use Rattle.expr.specs.Expr.{labels, none}
-use Rattle.asm.specs.Form.{linesOf, whatOf}
+use Rattle.forms.specs.Form.{linesOf, whatOf}
 use Rattle.asm.specs.Assemble.{addressOf, labelsOf}
-use Rattle.asm.proofs.Laws.{line-there, labels-on, labels-end}
+use Rattle.forms.proofs.Laws.{line-there}
+use Rattle.asm.proofs.Laws.{labels-on, labels-end}
 use Rattle.asm.proofs.passes.collect.Statement.{statement}
 use Rattle.asm.proofs.passes.collect.Tie as tie
 

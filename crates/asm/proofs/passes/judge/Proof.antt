@@ -7,11 +7,12 @@ use lib.ListN.{length, take, drop}
 use lib.Seq.{length-take-le}
 use borrow.Author.Needs.{needs}
 use Rattle.expr.specs.Expr.{labels}
-use Rattle.asm.specs.Form.{linesOf, whatOf}
+use Rattle.forms.specs.Form.{linesOf, whatOf}
 use Rattle.asm.specs.declared.Checked.{Checked}
 use Rattle.asm.specs.Assemble.{lineCheck, verdictOf}
 use Rattle.word.specs.declared.ByteAddr.{ByteAddr}
-use Rattle.asm.proofs.Laws.{line-there, fine-room, verdict-on, verdict-stops, verdict-end}
+use Rattle.forms.proofs.Laws.{line-there}
+use Rattle.asm.proofs.Laws.{fine-room, verdict-on, verdict-stops, verdict-end}
 use Rattle.asm.proofs.passes.judge.Statement.{statement}
 use Rattle.asm.proofs.passes.judge.Tie as tie
 

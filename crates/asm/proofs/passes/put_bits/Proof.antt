@@ -1,4 +1,4 @@
-use Rattle.asm.specs.Says.{bytesIn}
+use Rattle.forms.specs.Says.{bytesIn}
 use Rattle.text.specs.Pages.{writeOn}
 use borrow.Author.Needs.{needs}
 use Rattle.asm.proofs.passes.put_bits.Statement.{statement}

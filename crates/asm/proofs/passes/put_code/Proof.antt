@@ -5,9 +5,10 @@ use lib.ListN.{length, drop}
 use borrow.Author.Needs.{needs}
 use Rattle.text.specs.Pages.{page, writeOn}
 use Rattle.expr.specs.Expr.{labels}
-use Rattle.asm.specs.Form.{linesOf, whatOf}
+use Rattle.forms.specs.Form.{linesOf, whatOf}
 use Rattle.asm.specs.Assemble.{addressOf, codeOf}
-use Rattle.asm.proofs.Laws.{line-there, code-on, code-end}
+use Rattle.forms.proofs.Laws.{line-there}
+use Rattle.asm.proofs.Laws.{code-on, code-end}
 use Rattle.asm.proofs.passes.put_code.Statement.{statement}
 use Rattle.asm.proofs.passes.put_code.Tie as tie
 
