@@ -1,14 +1,15 @@
 /*
  * Pushvratem: a proved reference model of the MANIK core, as a C library.
  *
- * tools/library makes the library for x86-64 Linux, two archives in target/staticlib: libabi.a has manik_run, and libabi_list.a
- * has manik_list. docs/HOSTS.md shows programs with it. It needs nothing but itself: it calls no function, keeps nothing between
- * calls, and reads and writes only what a call lends it.
+ * tools/library makes the library for x86-64 Linux, three archives in target/staticlib: libabi.a has manik_run, libabi_list.a has
+ * manik_list, and libabi_asm.a has manik_assemble. docs/HOSTS.md shows programs with it. It needs nothing but itself, and
+ * libabi_asm.a the C library's memset: it calls no other function, keeps nothing between calls, and reads and writes only what a
+ * call lends it.
  * So calls on different buffers may run in different threads at the same time.
  *
  * "The rules" below are document 01's, which docs/MANIK.md restates. What manik_run answers is the definition `called` of
- * crates/abi/specs/Call.antt, and what manik_list answers is `listedOf` of crates/listing/specs/Lent.antt; each function is
- * proved equal to its definition for every input.
+ * crates/abi/specs/Call.antt, what manik_list answers is `listedOf` of crates/listing/specs/Lent.antt, and what manik_assemble
+ * answers is `assembledOf` of crates/asm/specs/Assemble.antt; each function is proved equal to its definition for every input.
  */
 #ifndef MANIK_H
 #define MANIK_H
@@ -116,6 +117,50 @@ uint32_t manik_list(const uint8_t *image, size_t image_len,
                     size_t start, size_t end,
                     uint8_t *out, size_t out_len,
                     size_t *written);
+
+/* What manik_assemble returns: 0, and document 02's refusal numbers. */
+enum manik_assembled {
+    MANIK_ASSEMBLED = 0,        /* the text is assembled */
+    MANIK_START = 29,           /* start odd or past the image */
+    MANIK_UNKNOWN_FORM = 30,    /* unknown form */
+    MANIK_PARENTHESES = 31,     /* ninth parenthesis */
+    MANIK_UNKNOWN_LABEL = 32,   /* unknown label */
+    MANIK_LABEL_TWICE = 33,     /* label written twice */
+    MANIK_TOO_MANY_LABELS = 34, /* too many labels */
+    MANIK_VALUE = 35,           /* value that doesn't fit its place */
+    MANIK_IMAGE_FULL = 36       /* no room in the image */
+};
+
+/*
+ * Assembles a text into an image, from the address `start` on. docs/ASSEMBLER.md has the language.
+ *
+ * A line is a label or nothing, a mnemonic, and operands in the written form of docs/MANIK.md, a tab at each gap and a newline at
+ * its end; `word` and `half` are data. An immediate is an expression of numbers and labels with +, -, * and parentheses.
+ *
+ *   text   the lines; none is fine
+ *   start  the address of the first line: even, and not above the image's length
+ *   image  the memory image; its address 0 is image[0]
+ *   line   takes the number of lines, or the line that is refused, counted from 1
+ *   end    takes the address after the last byte
+ *
+ * Returns one of enum manik_assembled.
+ *
+ *   0         *line is the number of lines. The bytes from image[start] to before image[*end] are what the lines say, and no
+ *             other byte of the image changes.
+ *   29        the text cannot begin at `start`. *line and *end are 0, and the image does not change.
+ *   30 to 36  line *line is the first that is refused, for this reason and for none with a lower number. *end is 0, and the
+ *             image does not change.
+ *
+ * A line takes 2 bytes, or 4 if it is jf, jt, j, jl or word. So an image with 4 bytes for each line behind `start` never gets a
+ * 36.
+ *
+ * The caller sees to what no contract can say in C: both buffers are valid for their lengths and no pointer is null, even where
+ * the length is 0; `line` and `end` are aligned; image, *line and *end overlap neither each other nor the text.
+ */
+uint32_t manik_assemble(const uint8_t *text, size_t text_len,
+                        size_t start,
+                        uint8_t *image, size_t image_len,
+                        size_t *line, size_t *end);
 
 #ifdef __cplusplus
 }

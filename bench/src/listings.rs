@@ -2,6 +2,8 @@
 
 use second::isa::{decode, needs_second};
 
+use crate::random::Random;
+
 /// The length of every image; a range is its first bytes.
 pub const LONGEST: usize = 65_536;
 
@@ -26,18 +28,6 @@ impl Listing {
         let mut lister = Lister::new(self, range, Buffer::Exact);
         lister.by_second();
         lister.buffer.iter().filter(|&&byte| byte == b'\n').count()
-    }
-}
-
-/// A small generator of pseudo-random numbers (splitmix64), the same in every run.
-struct Random(u64);
-
-impl Random {
-    fn half(&mut self) -> u16 {
-        self.0 = self.0.wrapping_add(0x9e37_79b9_7f4a_7c15);
-        let mixed = (self.0 ^ self.0 >> 30).wrapping_mul(0xbf58_476d_1ce4_e5b9);
-        let mixed = (mixed ^ mixed >> 27).wrapping_mul(0x94d0_49bb_1331_11eb);
-        ((mixed ^ mixed >> 31) >> 48) as u16
     }
 }
 

@@ -3,15 +3,19 @@
 mod images;
 mod listings;
 mod machine;
+mod random;
 mod tables;
+mod texts;
 mod timing;
 
 use std::env;
+use std::fs;
 use std::process::ExitCode;
 
 use images::{IMAGES, SIZES};
 use listings::{listings, Buffer, Lister};
 use machine::{Library, Machine, Second};
+use texts::{Assembler, Source, LENGTHS};
 
 const USAGE: &str =
     "usage: bench time                              writes the tables of steps and lines per second
@@ -20,6 +24,9 @@ const USAGE: &str =
        bench listings                          writes a line for each listing that is counted:
                                                NUMBER RANGE BUFFER, its lines, and its name
        bench lines NUMBER RANGE BUFFER PROGRAM TIMES    lists so many times
+       bench texts                             writes a line for each text: its lines, and its name
+       bench text LINES                        writes the text with so many lines
+       bench assemble FILE PROGRAM TIMES       assembles the text of a file so many times
 ";
 
 /// The ranges and buffers of the listings that are counted. An emulator writes a line of its log
@@ -38,6 +45,9 @@ fn main() -> ExitCode {
         ["lines", number, range, buffer, program, times] => {
             lines([number, range, buffer, program, times])
         }
+        ["texts"] => name_texts(),
+        ["text", lines] => write_text(lines),
+        ["assemble", file, program, times] => assemble(file, program, times),
         _ => None,
     };
     if done.is_none() {
@@ -51,6 +61,8 @@ fn time() -> Option<()> {
     tables::steps();
     println!();
     tables::listing();
+    println!();
+    tables::assembling();
     Some(())
 }
 
@@ -98,6 +110,35 @@ fn lines([number, range, buffer, program, times]: [&str; 5]) -> Option<()> {
     let mut lister = Lister::new(listing, range, buffer);
     for _ in 0..times.parse::<u32>().ok()? {
         list(&mut lister);
+    }
+    Some(())
+}
+
+fn name_texts() -> Option<()> {
+    for lines in LENGTHS {
+        println!("{lines}\t{}", texts::NAME);
+    }
+    Some(())
+}
+
+fn write_text(lines: &str) -> Option<()> {
+    let lines = lines.parse().ok().filter(|lines| LENGTHS.contains(lines))?;
+    print!("{}", Source::new(lines).text);
+    Some(())
+}
+
+/// Assembles so many times; none if the arguments are wrong. The text is not made here, since that
+/// takes more instructions than assembling it, all of which are counted.
+fn assemble(file: &str, program: &str, times: &str) -> Option<()> {
+    let source = Source::of(fs::read_to_string(file).ok()?);
+    let assemble = match program {
+        "library" => Assembler::by_library,
+        "second" => Assembler::by_second,
+        _ => return None,
+    };
+    let mut assembler = Assembler::new(&source);
+    for _ in 0..times.parse::<u32>().ok()? {
+        assemble(&mut assembler);
     }
     Some(())
 }

@@ -5,6 +5,7 @@ use std::time::Duration;
 use crate::images::{Image, IMAGES, SIZES};
 use crate::listings::{listings, Buffer, Lister, Listing, LONGEST};
 use crate::machine::{Library, Machine, Second, CALL};
+use crate::texts::{Assembler, Source, LENGTHS, NAME};
 use crate::timing::in_turn;
 
 const STEPS_HEAD: &str = "\
@@ -22,6 +23,16 @@ const RANGES_HEAD: &str = "\
 | Listing | Program | 16 KiB, nanoseconds a byte of the range | 32 KiB | 64 KiB \
 | 64 KiB over 16 KiB |
 |---|---|---|---|---|---|
+";
+
+const TEXTS_HEAD: &str = "\
+| Text | Lines | Library, million lines a second | Second program | Ratio |
+|---|---|---|---|---|
+";
+
+const LENGTHS_HEAD: &str = "\
+| Assembler | 5,000 lines, nanoseconds a line | 20,000 lines | 20,000 over 5,000 |
+|---|---|---|---|
 ";
 
 /// How long a round lasts, about, with both programs.
@@ -136,4 +147,35 @@ fn ranges_row(listing: &Listing, program: &str, times: [f64; 3]) -> String {
         std::array::from_fn(|place| times[place] * 1e9 / RANGES[place] as f64);
     let name = listing.name;
     format!("| {name} | {program} | {short:.2} | {middle:.2} | {long:.2} | {:.2} |\n", long / short)
+}
+
+/// Measures the texts and writes two tables: lines a second, and how the time goes with the length.
+pub fn assembling() {
+    let [short, long] = LENGTHS.map(Source::new);
+    let new = || [Assembler::new(&short), Assembler::new(&long)];
+    let ([mut a, mut c], [mut b, mut d]) = (new(), new());
+    let times = in_turn(
+        ROUND,
+        [&mut || a.by_library(), &mut || b.by_second(), &mut || c.by_library(), &mut || {
+            d.by_second()
+        }],
+    );
+    let is_same = a.image == b.image && c.image == d.image;
+    assert!(is_same, "{NAME}: the programs differ");
+    eprintln!("{NAME}: measured");
+    let [a, b, c, d] = times;
+    let rows = texts_row(&short, [a, b]) + &texts_row(&long, [c, d]);
+    let lengths = lengths_row("library", [a, c]) + &lengths_row("second program", [b, d]);
+    print!("{TEXTS_HEAD}{rows}\n{LENGTHS_HEAD}{lengths}");
+}
+
+fn texts_row(source: &Source, [library, second]: [f64; 2]) -> String {
+    let lines = source.lines;
+    let [fast, slow] = [library, second].map(|time| lines as f64 / time / 1e6);
+    format!("| {NAME} | {lines} | {fast:.2} | {slow:.2} | {:.2} |\n", second / library)
+}
+
+fn lengths_row(program: &str, times: [f64; 2]) -> String {
+    let [short, long] = std::array::from_fn(|place| times[place] * 1e9 / LENGTHS[place] as f64);
+    format!("| {program} | {short:.0} | {long:.0} | {:.2} |\n", long / short)
 }

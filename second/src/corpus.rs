@@ -1,6 +1,8 @@
-//! The corpus of whole runs, as `docs/CORPUS.md` defines it: cases and their answers. Beside it,
-//! generated cases of a listing, which are no part of the file.
+//! The corpus of whole runs and that of the assembler, as `docs/CORPUS.md` defines them: cases and
+//! their answers. Beside them, generated cases of a listing and of the assembler, which are no part
+//! of a file.
 
+mod assembly;
 mod build;
 mod coverage;
 mod edges;
@@ -8,6 +10,10 @@ mod listing;
 mod random;
 mod trace;
 
+pub use assembly::{
+    assembly_answers_file, assembly_case, assembly_cases, assembly_cases_file, assembly_edges,
+    AssemblyCase, AssemblyCoverage, AssemblyEdge, LONGEST_ASSEMBLY_IMAGE, LONGEST_ASSEMBLY_TEXT,
+};
 pub use build::{assemble, Line};
 pub use coverage::{coverage, Coverage};
 pub use edges::edges;

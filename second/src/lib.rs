@@ -13,6 +13,9 @@ pub mod isa;
 /// The listing of an image.
 pub mod listing;
 
+/// The assembler for test snippets.
+pub mod assemble;
+
 /// The lines of `docs/VECTORS.md`, which the proved library computes too.
 pub mod vectors;
 
@@ -37,5 +40,5 @@ pub mod record;
 pub mod script;
 
 /// The cases and answers of `docs/CORPUS.md`, which the proved library computes too, and generated
-/// cases of a listing.
+/// cases of a listing and of the assembler.
 pub mod corpus;

@@ -99,6 +99,65 @@ fn list_tells_why_there_is_no_listing() {
 }
 
 #[test]
+fn assemble_writes_the_bytes_of_a_text() {
+    let text = b"loop\tldr\tr5\t0\tr0\n\tsj\tloop\nx\tword\tx\n";
+    let Stored(file) = &Stored::new("text", text);
+    let Stored(empty) = &Stored::new("empty", b"");
+    let calls = [
+        (file, "0", "8", "8050f7ff00000004\n"),
+        (file, "0x100", "0x108", "8050f7ff00000104\n"),
+        (file, "2", "4096", "8050f7ff00000006\n"),
+        (empty, "0", "0", "\n"),
+        (empty, "8", "8", "\n"),
+    ];
+    for (file, start, length, expected) in calls {
+        let output = run(&["assemble", file, start, length], b"");
+        assert_eq!(output.status.code(), Some(0), "{start} {length}");
+        assert_eq!(String::from_utf8(output.stdout).expect("plain text"), expected);
+        assert!(output.stderr.is_empty(), "{start} {length}");
+    }
+}
+
+#[test]
+fn assemble_tells_the_line_and_number_of_a_refusal() {
+    let Stored(file) = &Stored::new("good", b"\tjr\tr0\n\tjl\t0\n");
+    let Stored(bad) = &Stored::new("bad", b"\tjr\tr0\n\tjr\tr0\n\tjr\tr16\n");
+    let calls = [
+        (file, "1", "8", "0 29\n"),
+        (file, "10", "8", "0 29\n"),
+        (file, "0", "5", "2 36\n"),
+        (file, "8", "8", "1 36\n"),
+        (bad, "0", "8", "3 30\n"),
+    ];
+    for (file, start, length, expected) in calls {
+        let output = run(&["assemble", file, start, length], b"");
+        assert_eq!(output.status.code(), Some(1), "{start} {length}");
+        assert_eq!(String::from_utf8(output.stdout).expect("plain text"), expected);
+        assert!(output.stderr.is_empty(), "{start} {length}");
+    }
+}
+
+#[test]
+fn assemble_tells_what_it_cannot_read() {
+    let Stored(file) = &Stored::new("any", b"\tjr\tr0\n");
+    let missing = &format!("{file}-missing");
+    let calls = [
+        (missing, "0", "2", &missing[..]),
+        (file, "", "2", "\"\" is no"),
+        (file, "0", "-2", "\"-2\" is no"),
+        (file, "0", "0xffffffffffffffff", "memory allocation failed"),
+    ];
+    for (file, start, length, message) in calls {
+        let output = run(&["assemble", file, start, length], b"");
+        let told = String::from_utf8(output.stderr).expect("plain text");
+        assert_eq!(output.status.code(), Some(1), "{start} {length}");
+        assert!(output.stdout.is_empty(), "{start} {length}");
+        assert!(told.starts_with(&format!("second: {message}")), "{start} {length}: {told}");
+        assert_eq!(told.lines().count(), 1, "{told}");
+    }
+}
+
+#[test]
 fn script_answers_standard_input() {
     let inputs: [(&[u8], &[u8]); 3] = [
         (
@@ -123,6 +182,8 @@ fn the_corpus_subcommands_write_the_corpus() {
         ("corpus-cases", corpus::cases_file()),
         ("corpus-answers", corpus::answers_file().into_bytes()),
         ("corpus-coverage", coverage.into_bytes()),
+        ("assembly-cases", corpus::assembly_cases_file()),
+        ("assembly-answers", corpus::assembly_answers_file().into_bytes()),
     ];
     for (subcommand, expected) in outputs {
         let output = run(&[subcommand], b"");
@@ -140,9 +201,12 @@ fn the_usage_lists_every_subcommand() {
         "vectors-list",
         "script",
         "list FILE START END",
+        "assemble FILE START LENGTH",
         "corpus-cases",
         "corpus-answers",
         "corpus-coverage",
+        "assembly-cases",
+        "assembly-answers",
     ];
     for subcommand in subcommands {
         assert!(usage.lines().any(|line| line.starts_with(&format!("  {subcommand}"))), "{usage}");
@@ -160,6 +224,9 @@ fn a_wrong_call_gets_the_usage_and_status_2() {
         &["list"],
         &["list", "file", "0"],
         &["list", "file", "0", "2", "more"],
+        &["assemble"],
+        &["assemble", "file", "0"],
+        &["assemble", "file", "0", "2", "more"],
         &["--help"],
     ];
     for arguments in calls {

@@ -83,7 +83,7 @@ pub fn is_same(a: &[u8], b: &[u8]) -> bool
 
 // ---- digits read
 
-fn value(c: u8) -> u32
+pub fn value(c: u8) -> u32
     ensures { λ r. ⌜ (r ≡ valueOf c) × (r ≤ 16) ⌝ }
 {
     if c < 48 {

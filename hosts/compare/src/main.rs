@@ -1,5 +1,6 @@
 //! The comparer: fresh cases through the static library and through the second program.
 
+mod assembly;
 mod cases;
 mod check;
 mod listing;
@@ -39,11 +40,12 @@ fn main() -> ExitCode {
     let arguments: Vec<&str> = arguments.iter().map(String::as_str).collect();
     let numbers: Option<Vec<u64>> = arguments
         .iter()
-        .filter(|&&argument| argument != "--case")
+        .filter(|&&argument| !["--case", "--texts"].contains(&argument))
         .map(|n| n.parse().ok())
         .collect();
     match (&arguments[..], numbers.as_deref()) {
         (["--case", _, _], Some(&[seed, index])) => tell(one(seed, index)),
+        (["--texts", _, _], Some(&[n, seed])) => tell(texts(n, seed)),
         ([_, _], Some(&[n, seed])) => tell(many(n, seed)),
         _ => {
             eprint!("{USAGE}");
@@ -65,17 +67,38 @@ fn tell(Verdict { text, good }: Verdict) -> ExitCode {
     }
 }
 
-/// Compares many cases; stops at the first disagreement.
+/// Compares many cases.
 fn many(n: u64, seed: u64) -> Verdict {
-    let (cases, mut reached) = (Cases::new(), Reached::default());
+    let cases = Cases::new();
+    let compare = |index, reached: &mut Reached| compare(&cases, seed, index, reached);
+    let reached = all(n, seed, Reached::default(), compare);
+    let all = "Every refusal, stop, entry, instruction and kind of listing and text was reached.";
+    reached.map_or_else(|verdict| verdict, |reached| summary(n, seed, &reached, all))
+}
+
+/// Compares the texts of many cases, and nothing else of them.
+fn texts(n: u64, seed: u64) -> Verdict {
+    let compare = |index, reached: &mut Reached| compare_texts(seed, index, reached);
+    let reached = all(n, seed, Reached::by_texts(), compare);
+    let all = "Every refusal and kind of text was reached.";
+    reached.map_or_else(|verdict| verdict, |reached| summary(n, seed, &reached, all))
+}
+
+/// Makes a comparison for each of many cases; stops at the first disagreement.
+fn all(
+    n: u64,
+    seed: u64,
+    mut reached: Reached,
+    compare: impl Fn(u64, &mut Reached) -> Result<(), Disagreement>,
+) -> Result<Reached, Verdict> {
     let (began, mut shown) = (Instant::now(), Instant::now());
     for index in 0..n {
-        if let Err(Disagreement { about, text }) = compare(&cases, seed, index, &mut reached) {
+        if let Err(Disagreement { about, text }) = compare(index, &mut reached) {
             let text = format!(
                 "case {index} of seed {seed}: {about}\n{text}\n\
                  alone: tools/compare --case {seed} {index}\n"
             );
-            return Verdict { text, good: false };
+            return Err(Verdict { text, good: false });
         }
         if shown.elapsed() > PAUSE {
             shown = Instant::now();
@@ -84,10 +107,10 @@ fn many(n: u64, seed: u64) -> Verdict {
             let _ = writeln!(io::stderr(), "{} of {n} cases, {seconds} seconds", index + 1);
         }
     }
-    summary(n, seed, &reached)
+    Ok(reached)
 }
 
-/// Compares a case: its run, and the calls of its listing.
+/// Compares a case: its run, the calls of its listing, and those of its text.
 fn compare(
     cases: &Cases,
     seed: u64,
@@ -102,15 +125,22 @@ fn compare(
         let listed = listing::check(&call, listing::by_library)?;
         reached.add_listing(&call.case, &listed);
     }
+    compare_texts(seed, index, reached)
+}
+
+fn compare_texts(seed: u64, index: u64, reached: &mut Reached) -> Result<(), Disagreement> {
+    for call in assembly::calls(seed, index) {
+        let assembled = assembly::check(&call, assembly::by_library)?;
+        reached.add_text(&call, &assembled);
+    }
     Ok(())
 }
 
-fn summary(n: u64, seed: u64, reached: &Reached) -> Verdict {
+/// `all` is said where everything was reached.
+fn summary(n: u64, seed: u64, reached: &Reached, all: &str) -> Verdict {
     let missing = reached.missing();
     let last = match &missing[..] {
-        [] => {
-            "Every refusal, stop, entry, instruction and kind of listing was reached.".to_string()
-        }
+        [] => all.to_string(),
         missing => format!("Not reached: {}.", missing.join(", ")),
     };
     let text = format!("{}{n} cases of seed {seed}: all agree.\n{last}\n", reached.text());
@@ -123,7 +153,8 @@ fn one(seed: u64, index: u64) -> Verdict {
     let cases = Cases::new();
     let input = cases.case(&mut random);
     let shown = report::case(&input, &scrambled(&input, &mut random))
-        + &report::listing(&listing::calls(seed, index));
+        + &report::listing(&listing::calls(seed, index))
+        + &report::assembly(&assembly::calls(seed, index));
     let (verdict, good) = match compare(&cases, seed, index, &mut Reached::default()) {
         Ok(()) => ("All agree.".to_string(), true),
         Err(disagreement) => (format!("{}: {}", disagreement.about, disagreement.text), false),

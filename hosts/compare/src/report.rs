@@ -1,16 +1,22 @@
 //! What is written: the coverage of many cases, and one case in full.
 
+mod assembly;
 mod listing;
+mod texts;
 
+pub use assembly::assembly;
 pub use listing::listing;
 
 use manik::Reply;
-use second::corpus::{Coverage, ListCase, ListCoverage};
+use second::corpus::{AssemblyCase, Coverage, ListCase, ListCoverage};
 use second::listing::line_at;
 use second::record;
 use second::run::Outcome;
 use second::step::{step, Entry, Step};
 
+use texts::Texts;
+
+use crate::assembly::Assembled;
 use crate::listing::{room_for_any, Listed};
 use crate::machine::{by_library, by_second, End, Input};
 
@@ -25,9 +31,17 @@ pub struct Reached {
     /// Listings for which the library goes through the range once, and those for which twice.
     one_pass: u64,
     two_passes: u64,
+    texts: Texts,
+    /// Whether texts alone are compared.
+    texts_alone: bool,
 }
 
 impl Reached {
+    /// What texts alone reach.
+    pub fn by_texts() -> Reached {
+        Reached { texts_alone: true, ..Reached::default() }
+    }
+
     /// Counts a case on which all agreed.
     pub fn add(&mut self, input: Input, outcome: Option<Outcome>, told_apart: bool) {
         self.told_apart += u64::from(told_apart);
@@ -52,8 +66,16 @@ impl Reached {
         }
     }
 
+    /// Counts the call of an assembler on which both agreed.
+    pub fn add_text(&mut self, case: &AssemblyCase, assembled: &Assembled) {
+        self.texts.add(case, assembled);
+    }
+
     /// Every line with its count.
     fn lines(&self) -> Vec<(&str, &str, u64)> {
+        if self.texts_alone {
+            return self.texts.lines().collect();
+        }
         let lines =
             self.coverage.lines.iter().map(|(kind, name, count)| (*kind, &name[..], *count));
         let more = [
@@ -64,14 +86,18 @@ impl Reached {
             ("listed", "in one pass", self.one_pass),
             ("listed", "in two passes", self.two_passes),
         ];
-        lines.chain(more).chain(self.listings.lines.iter().copied()).chain(passes).collect()
+        let listings = self.listings.lines.iter().copied().chain(passes);
+        lines.chain(more).chain(listings).chain(self.texts.lines()).collect()
     }
 
     /// The lines, parted by tabs, and the number of all steps.
     pub fn text(&self) -> String {
         let line = |(kind, name, count)| format!("{kind}\t{name}\t{count}\n");
         let lines: String = self.lines().into_iter().map(line).collect();
-        lines + &format!("all\tsteps\t{}\n", self.steps)
+        match self.texts_alone {
+            true => lines,
+            false => lines + &format!("all\tsteps\t{}\n", self.steps),
+        }
     }
 
     /// The names of what was never reached.

@@ -1,5 +1,6 @@
 //! The comparer itself: its cases are the same each time, and it finds wrong models.
 
+mod assembly;
 mod listing;
 
 use second::corpus::{assemble, Line};

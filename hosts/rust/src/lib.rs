@@ -1,7 +1,7 @@
 //! A safe wrapper over the static library of the proved MANIK model.
 //!
-//! Document 01 gives the rules of a run, and document 02 those of a listing; `docs/STATEMENTS.md`
-//! says what is proved of the library.
+//! Document 01 gives the rules of a run, and document 02 those of a listing and of the assembler;
+//! `docs/STATEMENTS.md` says what is proved of the library.
 //!
 //! ```
 //! let mut state = manik::State::fresh();
@@ -17,12 +17,14 @@
 #[cfg(not(all(target_arch = "x86_64", target_os = "linux")))]
 compile_error!("the static library is x86-64 code for Linux: build with `tools/host cargo`");
 
+mod assemble;
 mod call;
 mod list;
 mod reply;
 mod shown;
 mod state;
 
+pub use assemble::{assemble, AssembleError, AssembleRefusal, Assembled};
 pub use call::run_record;
 pub use list::{list, ListError, LISTING_ROOM};
 pub use reply::{Error, Outcome, Reply};

@@ -1,5 +1,7 @@
-//! `docs/MANIK.md` and `docs/PROGRAM.md`: what their tables and examples say, held to this program.
+//! `docs/MANIK.md`, `docs/PROGRAM.md` and `docs/ASSEMBLER.md`: what their tables and examples say,
+//! held to this program.
 
+mod assembler;
 #[path = "../generator/mod.rs"]
 mod generator;
 mod instructions;

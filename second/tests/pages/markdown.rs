@@ -55,7 +55,7 @@ pub fn blocks(page: &str, kind: &str) -> Vec<String> {
 #[test]
 fn what_the_pages_name_is_there() {
     let decisions = page("DECISIONS.md");
-    for page in [page("MANIK.md"), page("PROGRAM.md")] {
+    for page in ["MANIK.md", "PROGRAM.md", "ASSEMBLER.md"].map(page) {
         for name in page.split('`').filter(|name| name.ends_with(".antt") || name.ends_with(".h")) {
             assert!(path(name).exists(), "{name}");
         }

@@ -21,7 +21,12 @@ pub fn example(name: &str) -> String {
 }
 
 pub fn image(name: &str) -> Vec<u8> {
-    fs::read(root().join("examples").join(name)).unwrap_or_else(|error| panic!("{name}: {error}"))
+    bytes(&format!("examples/{name}"))
+}
+
+/// The bytes of a file of the repository.
+pub fn bytes(place: &str) -> Vec<u8> {
+    fs::read(root().join(place)).unwrap_or_else(|error| panic!("{place}: {error}"))
 }
 
 /// The answer's values on the lines with these names; of a register that isn't written, eight zeros.

@@ -3,3 +3,4 @@
 mod build31;
 mod files;
 mod nested;
+mod sources;

@@ -1,0 +1,18 @@
+use borrow.Author.Needs.{needs}
+use Rattle.asm.proofs.lines.first_of.Statement.{statement}
+use Rattle.asm.proofs.lines.first_of.Tie as tie
+
+enum-told : tie.Need-enum-told
+enum-told c = search needs
+
+enum-known-x : tie.Need-enum-known-x
+enum-known-x c = search needs
+
+returns : tie.Need-returns
+returns c = search needs
+
+returns-2 : tie.Need-returns-2
+returns-2 c = rw (c .before .x .given .1)
+
+pub first-of-spec : {M : Type 1} → statement M
+first-of-spec = tie.close (tie.spec enum-told enum-known-x returns returns-2)

@@ -1,0 +1,169 @@
+use Prim.Native.Nat.{_+_, _-_, _^_, _<_, _≤_}
+use mathlib.Core.Path.{_≡_, refl, sym, ap, ap₂, _∙_}
+use mathlib.Core.List.{[]}
+use native.Mathlib.Numerals.{add-one}
+use native.Mathlib.Omega.{arith}
+use lib.ListN.{length, take, drop}
+use lib.Seq.{length-take-le}
+use borrow.Author.Needs.{needs}
+use Rattle.expr.specs.Expr.{labels}
+use Rattle.forms.specs.Form.{linesOf, whatOf}
+use Rattle.asm.specs.declared.Checked.{Checked}
+use Rattle.asm.specs.Assemble.{lineCheck, verdictOf}
+use Rattle.word.specs.declared.ByteAddr.{ByteAddr}
+use Rattle.forms.proofs.Laws.{line-there}
+use Rattle.asm.proofs.Laws.{fine-room, verdict-on, verdict-stops, verdict-end}
+use Rattle.asm.proofs.passes.judge.Statement.{statement}
+use Rattle.asm.proofs.passes.judge.Tie as tie
+
+abbrev Inv-loop : tie.InvT-loop
+Inv-loop text table start end keys places seen₀ count₀ to₀ lines₀ at₀ seen count to lines at =
+    (at ≤ length text) × (count ≤ 256) × (length seen ≡ 256) × (to ≤ end) × (lines ≤ at)
+    × (verdictOf (labels keys places) (take count seen) to end lines (linesOf (drop at text)) ≡ verdictOf (labels keys places) [] start end 0 (linesOf text))
+    × (length text < 2 ^ 64)
+
+abbrev μ-loop : tie.MeasureT-loop
+μ-loop text table start end keys places seen₀ count₀ to₀ lines₀ at₀ seen count to lines at = length text - at
+
+loop-holds : tie.Need-loop-holds Inv-loop μ-loop
+loop-holds c = (omega arith, omega arith, c .before .before .before .before .pre .1, c .before .before .before .before .pre .2, omega arith, refl, search needs)
+
+line-at-requires : tie.Need-line-at-requires Inv-loop μ-loop
+line-at-requires c κs = search needs
+
+body-requires : tie.Need-body-requires Inv-loop μ-loop
+body-requires c κs = search needs
+
+what-of-requires : tie.Need-what-of-requires Inv-loop μ-loop
+what-of-requires c κs = search needs
+
+bytes-for-requires : tie.Need-bytes-for-requires Inv-loop μ-loop
+bytes-for-requires c κs = search needs
+
+room-check-requires : tie.Need-room-check-requires Inv-loop μ-loop
+room-check-requires c κs = search needs
+
+slice-reshare-prefix-line-check : tie.Need-slice-reshare-prefix-line-check Inv-loop μ-loop
+slice-reshare-prefix-line-check c =
+    let i = c .before .before .before .before .before .before .loop .inv .1 in
+    let j = c .before .before .before .before .before .before .loop .inv .2 in
+    omega arith
+
+slice-aggregate-line-check : tie.Need-slice-aggregate-line-check Inv-loop μ-loop
+slice-aggregate-line-check c =
+    let i = c .before .before .before .before .before .before .before .loop .inv .1 in
+    let j = c .before .before .before .before .before .before .before .loop .inv .2 in
+    sym (length-take-le (c .before .before .before .before .before .before .before .loop .count) (c .before .before .before .before .before .before .before .loop .seen) (omega arith))
+
+address-of-requires : tie.Need-address-of-requires Inv-loop μ-loop
+address-of-requires c κs = search needs
+
+line-check-requires : tie.Need-line-check-requires Inv-loop μ-loop
+line-check-requires c κs = search needs
+
+enum-told : tie.Need-enum-told Inv-loop μ-loop
+enum-told c = c .match .keys1
+
+label-in-requires : tie.Need-label-in-requires Inv-loop μ-loop
+label-in-requires c κs = search needs
+
+add-name-requires : tie.Need-add-name-requires Inv-loop μ-loop
+add-name-requires c κs = search needs
+
+cast-to : tie.Need-cast-to Inv-loop μ-loop
+cast-to c = search needs
+
+add-to : tie.Need-add-to Inv-loop μ-loop
+add-to c =
+    let h = fine-room _ _ _ _ _ _ _ _ (sym (c .before .before .before .before .before .before .before .line-check .ensures ∙ ap₂ (λ (x : ByteAddr) (y : Checked). lineCheck (labels (c .before .before .before .before .before .before .before .before .before .before .before .before .before .before .before .before .before .before .before .before .before .args .keys .now) (c .before .before .before .before .before .before .before .before .before .before .before .before .before .before .before .before .before .before .before .before .before .args .places .now)) (take (c .before .before .before .before .before .before .before .before .before .before .before .before .before .before .before .before .loop .count) (c .before .before .before .before .before .before .before .before .before .before .before .before .before .before .before .before .loop .seen)) x y (c .before .before .before .before .before .before .before .before .before .before .before .before .what-of .result) (c .before .before .before .before .before .before .before .before .before .before .before .before .before .before .line-at .result .now)) (c .before .before .before .before .before .before .before .before .address-of .ensures) (c .before .before .before .before .before .before .before .before .before .before .room-check .ensures)) ∙ c .before .before .before .before .before .enum-told .given .1) in
+    let f = c .before .before .before .before .before .before .before .before .before .before .before .before .before .before .before .before .before .before .before .before .before .fits .end in
+    omega arith
+
+add-lines : tie.Need-add-lines Inv-loop μ-loop
+add-lines c =
+    let k = c .before .before .before .before .before .before .before .before .before .before .before .before .before .before .before .before .loop .inv .6 in
+    let t = c .before .before .before .before .before .before .before .before .before .before .before .before .before .before .before .loop-test .taken in
+    let i = c .before .before .before .before .before .before .before .before .before .before .before .before .before .before .before .before .loop .inv .4 in
+    let h : c .before .before .before .before .before .before .before .before .before .before .before .before .before .before .before .before .loop .lines + 1 < 2 ^ 64 = omega arith in
+    record { fits = h }
+
+add-at : tie.Need-add-at Inv-loop μ-loop
+add-at c =
+    let k = c .before .before .before .before .before .before .before .before .before .before .before .before .before .before .before .before .loop .inv .6 in
+    let g = line-there (c .before .before .before .before .before .before .before .before .before .before .before .before .before .before .before .before .before .before .before .before .before .args .text .now) (c .before .before .before .before .before .before .before .before .before .before .before .before .before .before .line-at .result .now) (c .before .before .before .before .before .before .before .before .before .before .before .before .before .before .before .before .loop .at) (c .before .before .before .before .before .before .before .before .before .before .before .before .before .before .before .loop-test .taken) (c .before .before .before .before .before .before .before .before .before .before .before .before .before .before .line-at .ensures) .within in
+    let h : c .before .before .before .before .before .before .before .before .before .before .before .before .before .before .before .before .loop .at + length (c .before .before .before .before .before .before .before .before .before .before .before .before .before .before .line-at .result .now) < 2 ^ 64 = omega arith in
+    record { fits = h }
+
+loop-less : tie.Need-loop-less Inv-loop μ-loop
+loop-less c =
+    let g = line-there (c .before .before .before .before .before .before .before .before .before .before .before .before .before .before .before .before .before .before .before .before .before .args .text .now) (c .before .before .before .before .before .before .before .before .before .before .before .before .before .before .line-at .result .now) (c .before .before .before .before .before .before .before .before .before .before .before .before .before .before .before .before .loop .at) (c .before .before .before .before .before .before .before .before .before .before .before .before .before .before .before .loop-test .taken) (c .before .before .before .before .before .before .before .before .before .before .before .before .before .before .line-at .ensures) in
+    let w = g .within in
+    let p = g .some in
+    omega arith
+
+loop-again : tie.Need-loop-again Inv-loop μ-loop
+loop-again c =
+    let g = line-there (c .before .before .before .before .before .before .before .before .before .before .before .before .before .before .before .before .before .before .before .before .before .args .text .now) (c .before .before .before .before .before .before .before .before .before .before .before .before .before .before .line-at .result .now) (c .before .before .before .before .before .before .before .before .before .before .before .before .before .before .before .before .loop .at) (c .before .before .before .before .before .before .before .before .before .before .before .before .before .before .before .loop-test .taken) (c .before .before .before .before .before .before .before .before .before .before .before .before .before .before .line-at .ensures) in
+    let e = c .before .before .add-name .ensures in
+    let p = g .some in
+    let i = c .before .before .before .before .before .before .before .before .before .before .before .before .before .before .before .before .loop .inv .4 in (
+      g .within,
+      e .1,
+      e .2,
+      fine-room _ _ _ _ _ _ _ _ (sym (c .before .before .before .before .before .before .before .line-check .ensures ∙ ap₂ (λ (x : ByteAddr) (y : Checked). lineCheck (labels (c .before .before .before .before .before .before .before .before .before .before .before .before .before .before .before .before .before .before .before .before .before .args .keys .now) (c .before .before .before .before .before .before .before .before .before .before .before .before .before .before .before .before .before .before .before .before .before .args .places .now)) (take (c .before .before .before .before .before .before .before .before .before .before .before .before .before .before .before .before .loop .count) (c .before .before .before .before .before .before .before .before .before .before .before .before .before .before .before .before .loop .seen)) x y (c .before .before .before .before .before .before .before .before .before .before .before .before .what-of .result) (c .before .before .before .before .before .before .before .before .before .before .before .before .before .before .line-at .result .now)) (c .before .before .before .before .before .before .before .before .address-of .ensures) (c .before .before .before .before .before .before .before .before .before .before .room-check .ensures)) ∙ c .before .before .before .before .before .enum-told .given .1),
+      omega arith,
+      verdict-on _ _ _ _ _ _ _ _ _ _ _ _ _ _ (g .lines) (c .before .before .before .before .before .before .before .before .before .before .before .before .what-of .ensures ∙ ap whatOf (c .before .before .before .before .before .before .before .before .before .before .before .before .before .body .ensures)) (c .before .before .before .before .before .before .before .before .before .before .before .bytes-for .ensures) (c .before .before .before .before .before .before .before .line-check .ensures ∙ ap₂ (λ (x : ByteAddr) (y : Checked). lineCheck (labels (c .before .before .before .before .before .before .before .before .before .before .before .before .before .before .before .before .before .before .before .before .before .args .keys .now) (c .before .before .before .before .before .before .before .before .before .before .before .before .before .before .before .before .before .before .before .before .before .args .places .now)) (take (c .before .before .before .before .before .before .before .before .before .before .before .before .before .before .before .before .loop .count) (c .before .before .before .before .before .before .before .before .before .before .before .before .before .before .before .before .loop .seen)) x y (c .before .before .before .before .before .before .before .before .before .before .before .before .what-of .result) (c .before .before .before .before .before .before .before .before .before .before .before .before .before .before .line-at .result .now)) (c .before .before .before .before .before .before .before .before .address-of .ensures) (c .before .before .before .before .before .before .before .before .before .before .room-check .ensures)) (c .before .before .before .before .before .enum-told .given .1) (c .before .before .before .label-in .ensures) (e .0) (add-one _) ∙ c .before .before .before .before .before .before .before .before .before .before .before .before .before .before .before .before .loop .inv .5,
+      c .before .before .before .before .before .before .before .before .before .before .before .before .before .before .before .before .loop .inv .6,
+    )
+
+enum-known-checked : tie.Need-enum-known-checked Inv-loop μ-loop
+enum-known-checked c = c .match .keys2
+
+add-t28 : tie.Need-add-t28 Inv-loop μ-loop
+add-t28 c = search needs
+
+same-length : tie.Need-same-length Inv-loop μ-loop
+same-length c = search needs
+
+returns : tie.Need-returns Inv-loop μ-loop
+returns c =
+    let g = line-there (c .before .before .before .before .before .before .before .before .before .before .before .before .before .before .before .before .before .args .text .now) (c .before .before .before .before .before .before .before .before .before .before .line-at .result .now) (c .before .before .before .before .before .before .before .before .before .before .before .before .loop .at) (c .before .before .before .before .before .before .before .before .before .before .before .loop-test .taken) (c .before .before .before .before .before .before .before .before .before .before .line-at .ensures) in
+    verdict-stops _ _ _ _ _ _ _ _ _ _ _ _ _ (g .lines) (c .before .before .before .before .before .before .before .before .what-of .ensures ∙ ap whatOf (c .before .before .before .before .before .before .before .before .before .body .ensures)) (c .before .before .before .before .before .before .before .bytes-for .ensures) (c .before .before .before .line-check .ensures ∙ ap₂ (λ (x : ByteAddr) (y : Checked). lineCheck (labels (c .before .before .before .before .before .before .before .before .before .before .before .before .before .before .before .before .before .args .keys .now) (c .before .before .before .before .before .before .before .before .before .before .before .before .before .before .before .before .before .args .places .now)) (take (c .before .before .before .before .before .before .before .before .before .before .before .before .loop .count) (c .before .before .before .before .before .before .before .before .before .before .before .before .loop .seen)) x y (c .before .before .before .before .before .before .before .before .what-of .result) (c .before .before .before .before .before .before .before .before .before .before .line-at .result .now)) (c .before .before .before .before .address-of .ensures) (c .before .before .before .before .before .before .room-check .ensures)) (c .before .checked .given .1) (add-one _) ∙ c .before .before .before .before .before .before .before .before .before .before .before .before .loop .inv .5
+
+same-length-2 : tie.Need-same-length-2 Inv-loop μ-loop
+same-length-2 c = search needs
+
+returns-2 : tie.Need-returns-2 Inv-loop μ-loop
+returns-2 c = sym (verdict-end (c .before .before .before .before .before .before .args .text .now) (c .before .loop .at) (c .loop-test .left) _ _ _ _ _) ∙ c .before .loop .inv .5
+
+pub judge-spec : {M : Type 1} → statement M
+judge-spec =
+    tie.close
+    (tie.spec
+    Inv-loop
+    μ-loop
+    loop-holds
+    line-at-requires
+    body-requires
+    what-of-requires
+    bytes-for-requires
+    room-check-requires
+    slice-reshare-prefix-line-check
+    slice-aggregate-line-check
+    address-of-requires
+    line-check-requires
+    enum-told
+    label-in-requires
+    add-name-requires
+    cast-to
+    add-to
+    add-lines
+    add-at
+    loop-less
+    loop-again
+    enum-known-checked
+    add-t28
+    same-length
+    returns
+    same-length-2
+    returns-2)

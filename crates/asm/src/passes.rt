@@ -1,0 +1,267 @@
+// The passes over a text: labels, refusals, bytes.
+ghost use mathlib.Core.Path.{_≡_};
+ghost use Prim.Native.Nat.{_≤_};
+ghost use mathlib.Core.List.{[]};
+ghost use lib.ListN.{length, take};
+ghost use Rattle.text.specs.Pages.{page, writeOn};
+ghost use Rattle.expr.specs.Expr.{labels, none};
+ghost use Rattle.forms.specs.Form.{linesOf, mnemonics};
+ghost use Rattle.asm.specs.Parts.{assembledWith};
+ghost use Rattle.forms.specs.Says.{bytesIn};
+ghost use Rattle.asm.specs.Assemble.{addressOf, withName, withLabel, labelFor, bytesFor, labelsOf, verdictOf, lineBytes, codeOf, isOutside, answered, imageAfter, assembledOf};
+use crate::Assembled;
+use crate::Checked;
+use crate::Refusal;
+use crate::lines::is_new;
+use crate::lines::label_in;
+use crate::lines::line_bits;
+use crate::lines::line_check;
+use crate::lines::line_value;
+use crate::lines::room_check;
+use crate::lines::value_in;
+use forms::What;
+use forms::body;
+use forms::is_known_as;
+use forms::line_at;
+use forms::shape_of;
+use forms::table;
+use forms::what_of;
+use isa::Encoded;
+use word::ByteAddr;
+
+fn address_of(at: usize) -> ByteAddr
+    ensures { λ r. ⌜ r ≡ addressOf at ⌝ }
+{
+    ByteAddr((at % 4294967296) as u32)
+}
+
+fn label_for(known: bool, line: &[u8]) -> u64
+    ensures { λ r. ⌜ r ≡ labelFor known (now (line .entry)) ⌝ }
+{
+    if known {
+        return label_in(line);
+    }
+    0
+}
+
+fn bytes_for(known: bool, w: What) -> u32
+    ensures { λ r. ⌜ r ≡ bytesFor known w ⌝ }
+{
+    if known {
+        let s = shape_of(w);
+        return s.size;
+    }
+    0
+}
+
+// The names of the first `count` labels, and one more.
+fn add_name(seen: &mut [u64], count: usize, k: u64) -> usize
+    requires { ⌜ (length (now seen) ≡ 256) × (count ≤ 256) ⌝ }
+    ensures { λ r. ⌜ (take r (now (seen .exit)) ≡ withName (take count (now (seen .entry))) k) × (r ≤ 256) × (length (now (seen .exit)) ≡ 256) ⌝ }
+{
+    if is_new(&seen[..count], k) {
+        seen[count] = k;
+        return count + 1;
+    }
+    count
+}
+
+fn add_label(keys: &mut [u64], places: &mut [u32], count: usize, k: u64, at: ByteAddr) -> usize
+    requires { ⌜ (length (now keys) ≡ 256) × (length (now places) ≡ 256) × (count ≤ 256) ⌝ }
+    ensures { λ r. ⌜ labels (take r (now (keys .exit))) (take r (now (places .exit))) ≡ withLabel (labels (take count (now (keys .entry))) (take count (now (places .entry)))) k at ⌝ }
+    ensures { λ r. ⌜ (r ≤ 256) × (length (now (keys .exit)) ≡ 256) × (length (now (places .exit)) ≡ 256) ⌝ }
+{
+    if is_new(&keys[..count], k) {
+        keys[count] = k;
+        places[count] = at.0;
+        return count + 1;
+    }
+    count
+}
+
+// The labels of the text, and how many they are.
+fn collect(
+    text: &[u8],
+    table: &[u64; 83],
+    start: usize,
+    keys: &mut [u64],
+    places: &mut [u32],
+) -> usize
+    requires { ⌜ (now table ≡ mnemonics) × (length (now keys) ≡ 256) × (length (now places) ≡ 256) ⌝ }
+    ensures { λ r. ⌜ labels (take r (now (keys .exit))) (take r (now (places .exit))) ≡ labelsOf none (addressOf start) (linesOf (now (text .entry))) ⌝ }
+    ensures { λ r. ⌜ (r ≤ 256) × (length (now (keys .exit)) ≡ 256) × (length (now (places .exit)) ≡ 256) ⌝ }
+{
+    let mut count: usize = 0;
+    let mut a = address_of(start);
+    let mut at: usize = 0;
+    while at < text.len() {
+        let line = line_at(text, at);
+        let w = what_of(body(line), table);
+        let known = is_known_as(w, line);
+        count = add_label(keys, places, count, label_for(known, line), a);
+        a = word::byte_sum(a, bytes_for(known, w));
+        at += line.len();
+    }
+    count
+}
+
+// Every line, the first refused one first.
+fn judge(
+    text: &[u8],
+    table: &[u64; 83],
+    start: usize,
+    end: usize,
+    keys: &[u64],
+    places: &[u32],
+    seen: &mut [u64],
+) -> Assembled
+    requires { ⌜ (now table ≡ mnemonics) × (length (now seen) ≡ 256) × (start ≤ end) ⌝ }
+    ensures { λ r. ⌜ r ≡ verdictOf (labels (now (keys .entry)) (now (places .entry))) [] start end 0 (linesOf (now (text .entry))) ⌝ }
+{
+    let mut count: usize = 0;
+    let mut to = start;
+    let mut lines: usize = 0;
+    let mut at: usize = 0;
+    while at < text.len() {
+        let line = line_at(text, at);
+        let w = what_of(body(line), table);
+        let n = bytes_for(true, w);
+        let room = room_check(to, n, end);
+        let checked = line_check(line, w, keys, places, &seen[..count], address_of(to), room);
+        match checked {
+            Checked::Fine => {
+                count = add_name(seen, count, label_in(line));
+                to += n as usize;
+                lines += 1;
+                at += line.len();
+            }
+            Checked::Not(r) => {
+                return Assembled::Refused(r, lines + 1);
+            }
+        }
+    }
+    Assembled::Done(lines, to)
+}
+
+fn put_bits(image: &mut [u8], to: usize, e: Encoded) -> usize
+    ensures { λ r. ⌜ page (now (image .exit)) r ≡ writeOn (bytesIn e) (page (now (image .entry)) to) ⌝ }
+{
+    match e {
+        Encoded::Half(h) => {
+            let bytes = [(h / 256) as u8, (h % 256) as u8];
+            text::put_all(image, to, &bytes)
+        }
+        Encoded::Pair(h, s) => {
+            let bytes = [
+                (h / 256) as u8,
+                (h % 256) as u8,
+                (s / 256) as u8,
+                (s % 256) as u8,
+            ];
+            text::put_all(image, to, &bytes)
+        }
+        Encoded::Nothing => to,
+    }
+}
+
+fn put_line(
+    image: &mut [u8],
+    to: usize,
+    line: &[u8],
+    w: What,
+    keys: &[u64],
+    places: &[u32],
+    a: ByteAddr,
+) -> usize
+    ensures { λ r. ⌜ page (now (image .exit)) r ≡ writeOn (lineBytes (labels (now (keys .entry)) (now (places .entry))) a w (now (line .entry))) (page (now (image .entry)) to) ⌝ }
+{
+    let b = body(line);
+    let value = line_value(shape_of(w), b, keys, places);
+    put_bits(image, to, line_bits(w, a, b, value_in(value)))
+}
+
+// The bytes of all lines, none of which is refused.
+fn put_code(
+    image: &mut [u8],
+    start: usize,
+    text: &[u8],
+    table: &[u64; 83],
+    keys: &[u64],
+    places: &[u32],
+) -> usize
+    requires { ⌜ now table ≡ mnemonics ⌝ }
+    ensures { λ r. ⌜ page (now (image .exit)) r ≡ writeOn (codeOf (labels (now (keys .entry)) (now (places .entry))) (addressOf start) (linesOf (now (text .entry)))) (page (now (image .entry)) start) ⌝ }
+{
+    let mut to = start;
+    let mut a = address_of(start);
+    let mut at: usize = 0;
+    while at < text.len() {
+        let line = line_at(text, at);
+        let w = what_of(body(line), table);
+        to = put_line(image, to, line, w, keys, places, a);
+        a = word::byte_sum(a, bytes_for(true, w));
+        at += line.len();
+    }
+    to
+}
+
+fn is_outside(start: usize, end: usize) -> bool
+    ensures { λ r. ⌜ r ≡ isOutside start end ⌝ }
+{
+    if start % 2 == 1 {
+        return true;
+    }
+    end < start
+}
+
+// Only a text that is not refused is written.
+fn put_judged(
+    verdict: Assembled,
+    text: &[u8],
+    table: &[u64; 83],
+    start: usize,
+    keys: &[u64],
+    places: &[u32],
+    image: &mut [u8],
+) -> Assembled
+    requires { ⌜ now table ≡ mnemonics ⌝ }
+    ensures { λ r. ⌜ r ≡ verdict ⌝ }
+    ensures { λ _. ⌜ now (image .exit) ≡ imageAfter verdict (codeOf (labels (now (keys .entry)) (now (places .entry))) (addressOf start) (linesOf (now (text .entry)))) start (now (image .entry)) ⌝ }
+{
+    match verdict {
+        Assembled::Done(lines, after) => {
+            put_code(image, start, text, table, keys, places);
+            Assembled::Done(lines, after)
+        }
+        Assembled::Refused(r, line) => Assembled::Refused(r, line),
+    }
+}
+
+fn assemble_with(
+    text: &[u8],
+    table: &[u64; 83],
+    start: usize,
+    keys: &[u64],
+    places: &[u32],
+    image: &mut [u8],
+) -> Assembled
+    requires { ⌜ (now table ≡ mnemonics) × (start ≤ length (now image)) ⌝ }
+    ensures { λ r. ⌜ answered r (now (image .exit)) ≡ assembledWith (labels (now (keys .entry)) (now (places .entry))) (linesOf (now (text .entry))) start (now (image .entry)) ⌝ }
+{
+    let mut seen = [0u64; 256];
+    let verdict = judge(text, table, start, image.len(), keys, places, &mut seen);
+    put_judged(verdict, text, table, start, keys, places, image)
+}
+
+pub fn assemble(text: &[u8], start: usize, image: &mut [u8]) -> Assembled
+    ensures { λ r. ⌜ answered r (now (image .exit)) ≡ assembledOf (now (text .entry)) start (now (image .entry)) ⌝ }
+{
+    if is_outside(start, image.len()) {
+        return Assembled::Refused(Refusal::Start, 0);
+    }
+    let table = table();
+    let mut keys = [0u64; 256];
+    let mut places = [0u32; 256];
+    let count = collect(text, &table, start, &mut keys, &mut places);
+    assemble_with(text, &table, start, &keys[..count], &places[..count], image)
+}

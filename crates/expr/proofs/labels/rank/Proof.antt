@@ -1,0 +1,39 @@
+use native.Mathlib.Omega.{arith}
+use mathlib.Core.Path.{sym, _∙_}
+use Rattle.expr.proofs.Names.{letter-range, digit-range, or-digit}
+use borrow.Author.Needs.{needs}
+use Rattle.expr.proofs.labels.rank.Statement.{statement}
+use Rattle.expr.proofs.labels.rank.Tie as tie
+
+is-letter-requires : tie.Need-is-letter-requires
+is-letter-requires c κs = search needs
+
+sub-result : tie.Need-sub-result
+sub-result c = let r = letter-range (c .before .before .args .c) (sym (c .before .is-letter .ensures) ∙ c .if1 .taken) in omega arith
+
+cast-result : tie.Need-cast-result
+cast-result c = search needs
+
+returns : tie.Need-returns
+returns c = (rw (← (c .before .is-letter .ensures), c .if1 .taken), let r = letter-range (c .before .before .args .c) (sym (c .before .is-letter .ensures) ∙ c .if1 .taken) in omega arith)
+
+sub-result-2 : tie.Need-sub-result-2
+sub-result-2 c = let r = digit-range (c .before .before .args .c) (or-digit (c .before .before .args .c) (c .before .before .pre) (sym (c .before .is-letter .ensures) ∙ c .if1 .left)) in omega arith
+
+cast-result-2 : tie.Need-cast-result-2
+cast-result-2 c = search needs
+
+returns-2 : tie.Need-returns-2
+returns-2 c = (rw (← (c .before .is-letter .ensures), c .if1 .left), let r = digit-range (c .before .before .args .c) (or-digit (c .before .before .args .c) (c .before .before .pre) (sym (c .before .is-letter .ensures) ∙ c .if1 .left)) in omega arith)
+
+pub rank-spec : {M : Type 1} → statement M
+rank-spec =
+    tie.close
+    (tie.spec
+    is-letter-requires
+    sub-result
+    cast-result
+    returns
+    sub-result-2
+    cast-result-2
+    returns-2)

@@ -1,0 +1,132 @@
+// Labels: names, their numbers, and where they stand.
+ghost use mathlib.Core.Path.{_≡_};
+ghost use mathlib.Core.Bool.{true, cond, _||_};
+ghost use Prim.Native.Nat.{_≤_, _<_, _^_};
+ghost use lib.ListN.{length, getD};
+ghost use Rattle.expr.specs.Expr.{isLetter, isDigit, runOf, rankOf, keyOf, isName, indexOf, meaning, labels};
+use crate::Value;
+use crate::values::signed_word;
+
+// The byte at a place, 0 past the end.
+pub fn byte(s: &[u8], i: usize) -> u8
+    ensures { λ r. ⌜ r ≡ getD (now (s .entry)) i 0 ⌝ }
+{
+    if i < s.len() {
+        return s[i];
+    }
+    0
+}
+
+pub fn is_letter(c: u8) -> bool
+    ensures { λ r. ⌜ r ≡ isLetter c ⌝ }
+{
+    if 97 <= c {
+        return c <= 122;
+    }
+    false
+}
+
+fn is_digit(c: u8) -> bool
+    ensures { λ r. ⌜ r ≡ isDigit c ⌝ }
+{
+    if 48 <= c {
+        return c <= 57;
+    }
+    false
+}
+
+fn is_named(c: u8) -> bool
+    ensures { λ r. ⌜ r ≡ (isLetter c || isDigit c) ⌝ }
+{
+    if is_letter(c) {
+        return true;
+    }
+    is_digit(c)
+}
+
+// How many letters and digits lead.
+pub fn run(s: &[u8]) -> usize
+    ensures { λ r. ⌜ (r ≡ runOf (now (s .entry))) × (r ≤ length (now (s .entry))) ⌝ }
+{
+    let mut i: usize = 0;
+    while i < s.len() {
+        if is_named(s[i]) {
+            i += 1;
+        } else {
+            return i;
+        }
+    }
+    i
+}
+
+fn rank(c: u8) -> u64
+    requires { ⌜ (isLetter c || isDigit c) ≡ true ⌝ }
+    ensures { λ r. ⌜ (r ≡ rankOf c) × (r ≤ 36) ⌝ }
+{
+    if is_letter(c) {
+        return (c - 86) as u64;
+    }
+    (c - 47) as u64
+}
+
+// Twelve characters at most, so that the number fits.
+pub fn key(s: &[u8]) -> u64
+    requires { ⌜ (length (now s) ≤ 12) × (runOf (now s) ≡ length (now s)) ⌝ }
+    ensures { λ r. ⌜ r ≡ keyOf (now (s .entry)) ⌝ }
+{
+    let mut v: u64 = 0;
+    let mut i: usize = 0;
+    while i < s.len() {
+        v = v * 37 + rank(s[i]);
+        i += 1;
+    }
+    v
+}
+
+// A name's number, 0 for what is no name.
+pub fn label(s: &[u8]) -> u64
+    ensures { λ r. ⌜ r ≡ cond (isName (now (s .entry))) (keyOf (now (s .entry))) 0 ⌝ }
+{
+    if is_letter(byte(s, 0)) {
+        if run(s) == s.len() {
+            if s.len() <= 12 {
+                return key(s);
+            }
+            return 0;
+        }
+        return 0;
+    }
+    0
+}
+
+pub fn find(keys: &[u64], k: u64) -> usize
+    ensures { λ r. ⌜ (r ≡ indexOf (now (keys .entry)) k) × (r ≤ length (now (keys .entry))) ⌝ }
+{
+    let mut i: usize = 0;
+    while i < keys.len() {
+        if keys[i] == k {
+            return i;
+        }
+        i += 1;
+    }
+    i
+}
+
+fn place(places: &[u32], i: usize) -> u32
+    ensures { λ r. ⌜ r ≡ getD (now (places .entry)) i 0 ⌝ }
+{
+    if i < places.len() {
+        return places[i];
+    }
+    0
+}
+
+pub fn mean(keys: &[u64], places: &[u32], k: u64) -> Value
+    ensures { λ r. ⌜ r ≡ meaning (labels (now (keys .entry)) (now (places .entry))) k ⌝ }
+{
+    let i = find(keys, k);
+    if i < keys.len() {
+        return Value::Is(signed_word(place(places, i)));
+    }
+    Value::Unknown
+}

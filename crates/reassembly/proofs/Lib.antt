@@ -1,0 +1,12 @@
+pub mod Fields
+pub mod Names
+pub mod Digits
+pub mod Numbers
+pub mod Targets
+pub mod Shapes
+pub mod ByKind
+pub mod Line
+pub mod Entries
+pub mod Whole
+pub mod Again
+pub mod Theorems

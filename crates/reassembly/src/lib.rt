@@ -1,0 +1,1 @@
+// Theorems: a listing assembles to the bytes that it lists.
