@@ -22,7 +22,8 @@ use Rattle.forms.specs.declared.What.{What}
 use Rattle.asm.specs.declared.Refusal.{Refusal}
 use Rattle.asm.specs.declared.Checked.{Checked}
 use Rattle.asm.specs.declared.Assembled.{Assembled}
-use Rattle.forms.specs.Form.{bodyOf, linesOf, whatIn, shapeOf, isKnownAs}
+use Rattle.forms.specs.Form.{bodyOf, linesOf, whatIn, shapeOf, isKnownAs, isKnown}
+use Rattle.asm.specs.Parts.{allKnown, checkSure}
 use Rattle.asm.specs.Assemble.{isSet, hasRoom, isNew, withName, withLabel, labelFor, bytesFor, labelsOf, addressOf, labelIn, lineValue, lineBits, before, refusedIf, labelCheck, fitCheck, valueCheck, lineCheck, roomCheck, verdictOf, lineBytes, codeOf, isOutside}
 
 -- ---- labels: one more after the first n
@@ -156,6 +157,47 @@ pub code-on : (s r l : List ℕ) (t : Labels) (a b : ByteAddr) (w : What) (n : �
 unfolding codeOf bytesFor
 code-on s r l t a b w n p q e f g h k =
     rw (e, k, h, g, f) (sym (write-append (lineBytes t a (whatIn l) l) (codeOf t (byteSum a (shapeOf (whatIn l) .size)) (linesOf r)) p))
+
+-- lines of known form
+and-assoc : (a b c : Bool) → ((a && b) && c) ≡ (a && (b && c))
+and-assoc true b c = refl
+and-assoc false b c = refl
+
+pub known-on : (s r l : List ℕ) (w : What) (all known more : Bool)
+    → linesOf s ≡ l ∷ linesOf r → w ≡ whatIn l → known ≡ isKnownAs w l → more ≡ (all && known)
+    → (more && allKnown (linesOf r)) ≡ (all && allKnown (linesOf s))
+unfolding allKnown
+known-on s r l w all known more e f g h = rw (e, h, g, f) (and-assoc all (isKnownAs (whatIn l) l) (allKnown (linesOf r)))
+
+pub known-end : (x : List ℕ) (i : ℕ) → length x ≤ i → (all : Bool) → all ≡ (all && allKnown (linesOf (drop i x)))
+unfolding allKnown
+known-end x i h all = rw (lines-end x i h) (go all)
+  where
+    go : (t : Bool) → t ≡ (t && true)
+    go true = refl
+    go false = refl
+
+and-left : (a b : Bool) → (a && b) ≡ true → a ≡ true
+and-left true b e = refl
+and-left false b e = e
+
+-- the first line's form, and that of the others, where all are known
+module _ (s r l : List ℕ) (w : What) (e : linesOf s ≡ l ∷ linesOf r) (f : w ≡ whatIn l) where
+  both-known : allKnown (linesOf s) ≡ true → (isKnown l && allKnown (linesOf r)) ≡ true
+  unfolding allKnown
+  both-known h = rw e at h
+
+  pub first-known : allKnown (linesOf s) ≡ true → isKnownAs w l ≡ true
+  first-known h = rw f (and-left (isKnown l) (allKnown (linesOf r)) (both-known h))
+
+  pub rest-known : allKnown (linesOf s) ≡ true → allKnown (linesOf r) ≡ true
+  rest-known h = and-right (isKnown l) (allKnown (linesOf r)) (both-known h)
+
+pub sure-check : (sure : Bool) (t : Labels) (s : List ℕ) (a : ByteAddr) (y : Checked) (w : What) (l : List ℕ)
+    → (sure ≡ true → isKnownAs w l ≡ true) → checkSure sure t s a y w l ≡ lineCheck t s a y w l
+unfolding checkSure lineCheck
+sure-check true t s a y w l h = rw (h refl)
+sure-check false t s a y w l h = refl
 
 -- a start that is not refused
 or-right : (a b : Bool) → (a || b) ≡ false → b ≡ false

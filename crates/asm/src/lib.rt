@@ -1,5 +1,6 @@
 // The assembler: what its parts are called.
 mod answers;
+mod labels;
 mod lines;
 mod passes;
 
@@ -30,4 +31,10 @@ pub enum Checked {
 pub enum Assembled {
     Done(usize, usize),
     Refused(Refusal, usize),
+}
+
+// How many labels are set, and whether every line is of known form.
+pub struct Collected {
+    pub count: usize,
+    pub known: bool,
 }

@@ -1,8 +1,11 @@
 // A line of known form: its value, its bits, and what is wrong with it first.
 ghost use mathlib.Core.Path.{_≡_};
+ghost use mathlib.Core.Bool.{_||_};
 ghost use Prim.Native.Nat.{_≤_};
 ghost use Rattle.expr.specs.Expr.{labels};
-ghost use Rattle.asm.specs.Assemble.{sumAt, lineValue, lineBits, labelIn, isNew, before, labelCheck, fitCheck, roomCheck, valueCheck, lineCheck, valueIn};
+ghost use Rattle.forms.specs.Form.{isKnownAs};
+ghost use Rattle.asm.specs.Parts.{checkSure};
+ghost use Rattle.asm.specs.Assemble.{sumAt, lineValue, lineBits, labelIn, before, labelCheck, fitCheck, roomCheck, valueCheck, valueIn};
 use crate::Checked;
 use crate::Refusal;
 use expr::Read;
@@ -83,18 +86,6 @@ pub fn value_in(r: Read) -> i32
     }
 }
 
-pub fn is_new(seen: &[u64], k: u64) -> bool
-    ensures { λ r. ⌜ r ≡ isNew (now (seen .entry)) k ⌝ }
-{
-    if k == 0 {
-        return false;
-    }
-    if expr::find(seen, k) < seen.len() {
-        return false;
-    }
-    seen.len() < 256
-}
-
 fn label_check(seen: &[u64], k: u64) -> Checked
     ensures { λ r. ⌜ r ≡ labelCheck (now (seen .entry)) k ⌝ }
 {
@@ -153,8 +144,19 @@ fn value_check(w: What, at: ByteAddr, b: &[u8], label: Checked, room: Checked, r
     }
 }
 
-// `seen` are the labels set before the line, and `room` says whether its bytes lie in the image.
+fn is_sure(sure: bool, w: What, line: &[u8]) -> bool
+    ensures { λ r. ⌜ r ≡ (sure || isKnownAs w (now (line .entry))) ⌝ }
+{
+    if sure {
+        return true;
+    }
+    is_known_as(w, line)
+}
+
+// `seen` are the labels set before the line, and `room` says whether its bytes lie in the image. Where the form of every line is known, it isn't
+// judged again.
 pub fn line_check(
+    sure: bool,
     line: &[u8],
     w: What,
     keys: &[u64],
@@ -163,9 +165,9 @@ pub fn line_check(
     at: ByteAddr,
     room: Checked,
 ) -> Checked
-    ensures { λ r. ⌜ r ≡ lineCheck (labels (now (keys .entry)) (now (places .entry))) (now (seen .entry)) at room w (now (line .entry)) ⌝ }
+    ensures { λ r. ⌜ r ≡ checkSure sure (labels (now (keys .entry)) (now (places .entry))) (now (seen .entry)) at room w (now (line .entry)) ⌝ }
 {
-    if is_known_as(w, line) {
+    if is_sure(sure, w, line) {
         let b = body(line);
         let value = line_value(shape_of(w), b, keys, places);
         return value_check(w, at, b, label_check(seen, label_in(line)), room, value);

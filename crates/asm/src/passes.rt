@@ -1,18 +1,21 @@
 // The passes over a text: labels, refusals, bytes.
 ghost use mathlib.Core.Path.{_≡_};
 ghost use Prim.Native.Nat.{_≤_};
+ghost use mathlib.Core.Bool.{true};
 ghost use mathlib.Core.List.{[]};
 ghost use lib.ListN.{length, take};
 ghost use Rattle.text.specs.Pages.{page, writeOn};
 ghost use Rattle.expr.specs.Expr.{labels, none};
 ghost use Rattle.forms.specs.Form.{linesOf, mnemonics};
-ghost use Rattle.asm.specs.Parts.{assembledWith};
+ghost use Rattle.asm.specs.Parts.{assembledWith, allKnown};
 ghost use Rattle.forms.specs.Says.{bytesIn};
-ghost use Rattle.asm.specs.Assemble.{addressOf, withName, withLabel, labelFor, bytesFor, labelsOf, verdictOf, lineBytes, codeOf, isOutside, answered, imageAfter, assembledOf};
+ghost use Rattle.asm.specs.Assemble.{addressOf, labelFor, bytesFor, labelsOf, verdictOf, lineBytes, codeOf, isOutside, answered, imageAfter, assembledOf};
 use crate::Assembled;
 use crate::Checked;
+use crate::Collected;
 use crate::Refusal;
-use crate::lines::is_new;
+use crate::labels::add_label;
+use crate::labels::add_name;
 use crate::lines::label_in;
 use crate::lines::line_bits;
 use crate::lines::line_check;
@@ -54,59 +57,38 @@ fn bytes_for(known: bool, w: What) -> u32
     0
 }
 
-// The names of the first `count` labels, and one more.
-fn add_name(seen: &mut [u64], count: usize, k: u64) -> usize
-    requires { ⌜ (length (now seen) ≡ 256) × (count ≤ 256) ⌝ }
-    ensures { λ r. ⌜ (take r (now (seen .exit)) ≡ withName (take count (now (seen .entry))) k) × (r ≤ 256) × (length (now (seen .exit)) ≡ 256) ⌝ }
-{
-    if is_new(&seen[..count], k) {
-        seen[count] = k;
-        return count + 1;
-    }
-    count
-}
-
-fn add_label(keys: &mut [u64], places: &mut [u32], count: usize, k: u64, at: ByteAddr) -> usize
-    requires { ⌜ (length (now keys) ≡ 256) × (length (now places) ≡ 256) × (count ≤ 256) ⌝ }
-    ensures { λ r. ⌜ labels (take r (now (keys .exit))) (take r (now (places .exit))) ≡ withLabel (labels (take count (now (keys .entry))) (take count (now (places .entry)))) k at ⌝ }
-    ensures { λ r. ⌜ (r ≤ 256) × (length (now (keys .exit)) ≡ 256) × (length (now (places .exit)) ≡ 256) ⌝ }
-{
-    if is_new(&keys[..count], k) {
-        keys[count] = k;
-        places[count] = at.0;
-        return count + 1;
-    }
-    count
-}
-
-// The labels of the text, and how many they are.
+// The labels of the text, and whether it has lines of unknown form.
 fn collect(
     text: &[u8],
     table: &[u64; 83],
     start: usize,
     keys: &mut [u64],
     places: &mut [u32],
-) -> usize
+) -> Collected
     requires { ⌜ (now table ≡ mnemonics) × (length (now keys) ≡ 256) × (length (now places) ≡ 256) ⌝ }
-    ensures { λ r. ⌜ labels (take r (now (keys .exit))) (take r (now (places .exit))) ≡ labelsOf none (addressOf start) (linesOf (now (text .entry))) ⌝ }
-    ensures { λ r. ⌜ (r ≤ 256) × (length (now (keys .exit)) ≡ 256) × (length (now (places .exit)) ≡ 256) ⌝ }
+    ensures { λ r. ⌜ labels (take (r .count) (now (keys .exit))) (take (r .count) (now (places .exit))) ≡ labelsOf none (addressOf start) (linesOf (now (text .entry))) ⌝ }
+    ensures { λ r. ⌜ (r .count ≤ 256) × (length (now (keys .exit)) ≡ 256) × (length (now (places .exit)) ≡ 256) ⌝ }
+    ensures { λ r. ⌜ r .known ≡ allKnown (linesOf (now (text .entry))) ⌝ }
 {
     let mut count: usize = 0;
+    let mut all = true;
     let mut a = address_of(start);
     let mut at: usize = 0;
     while at < text.len() {
         let line = line_at(text, at);
         let w = what_of(body(line), table);
         let known = is_known_as(w, line);
+        all = word::both(all, known);
         count = add_label(keys, places, count, label_for(known, line), a);
         a = word::byte_sum(a, bytes_for(known, w));
         at += line.len();
     }
-    count
+    Collected { count, known: all }
 }
 
 // Every line, the first refused one first.
 fn judge(
+    sure: bool,
     text: &[u8],
     table: &[u64; 83],
     start: usize,
@@ -115,7 +97,7 @@ fn judge(
     places: &[u32],
     seen: &mut [u64],
 ) -> Assembled
-    requires { ⌜ (now table ≡ mnemonics) × (length (now seen) ≡ 256) × (start ≤ end) ⌝ }
+    requires { ⌜ (now table ≡ mnemonics) × (length (now seen) ≡ 256) × (start ≤ end) × (sure ≡ true → allKnown (linesOf (now text)) ≡ true) ⌝ }
     ensures { λ r. ⌜ r ≡ verdictOf (labels (now (keys .entry)) (now (places .entry))) [] start end 0 (linesOf (now (text .entry))) ⌝ }
 {
     let mut count: usize = 0;
@@ -127,7 +109,8 @@ fn judge(
         let w = what_of(body(line), table);
         let n = bytes_for(true, w);
         let room = room_check(to, n, end);
-        let checked = line_check(line, w, keys, places, &seen[..count], address_of(to), room);
+        let a = address_of(to);
+        let checked = line_check(sure, line, w, keys, places, &seen[..count], a, room);
         match checked {
             Checked::Fine => {
                 count = add_name(seen, count, label_in(line));
@@ -238,6 +221,7 @@ fn put_judged(
 }
 
 fn assemble_with(
+    sure: bool,
     text: &[u8],
     table: &[u64; 83],
     start: usize,
@@ -245,11 +229,20 @@ fn assemble_with(
     places: &[u32],
     image: &mut [u8],
 ) -> Assembled
-    requires { ⌜ (now table ≡ mnemonics) × (start ≤ length (now image)) ⌝ }
+    requires { ⌜ (now table ≡ mnemonics) × (start ≤ length (now image)) × (sure ≡ true → allKnown (linesOf (now text)) ≡ true) ⌝ }
     ensures { λ r. ⌜ answered r (now (image .exit)) ≡ assembledWith (labels (now (keys .entry)) (now (places .entry))) (linesOf (now (text .entry))) start (now (image .entry)) ⌝ }
 {
     let mut seen = [0u64; 256];
-    let verdict = judge(text, table, start, image.len(), keys, places, &mut seen);
+    let verdict = judge(
+        sure,
+        text,
+        table,
+        start,
+        image.len(),
+        keys,
+        places,
+        &mut seen,
+    );
     put_judged(verdict, text, table, start, keys, places, image)
 }
 
@@ -262,6 +255,15 @@ pub fn assemble(text: &[u8], start: usize, image: &mut [u8]) -> Assembled
     let table = table();
     let mut keys = [0u64; 256];
     let mut places = [0u32; 256];
-    let count = collect(text, &table, start, &mut keys, &mut places);
-    assemble_with(text, &table, start, &keys[..count], &places[..count], image)
+    let found = collect(text, &table, start, &mut keys, &mut places);
+    let count = found.count;
+    assemble_with(
+        found.known,
+        text,
+        &table,
+        start,
+        &keys[..count],
+        &places[..count],
+        image,
+    )
 }

@@ -1,7 +1,7 @@
 -- Laws of names: the letters and digits that lead, and a name's number.
 -- Assumes nothing.
 use Prim.Native.Nat.{ℕ, zero, suc, _+_, _*_, _-_, _^_, _<_, _≤_}
-use mathlib.Core.Path.{_≡_, refl, sym, ap, ap₂, _∙_}
+use mathlib.Core.Path.{_≡_, refl, sym, ap, ap₂, subst, _∙_}
 use mathlib.Core.Bool.{Bool, true, false, cond, _&&_, _||_}
 use mathlib.Core.List.{List, [], _∷_}
 use native.Mathlib.Omega.{arith}
@@ -85,6 +85,35 @@ module _ (l : List ℕ) (k i : ℕ) (inv : indexOf l k ≡ indexOf (drop i l) k 
   pub index-end : length l ≤ i → i ≡ indexOf l k
   unfolding indexOf
   index-end h = let z : indexOf (drop i l) k ≡ 0 = rw (drop-of-length-le l h) in omega arith
+
+-- the same of four places, one after the other
+module _ (l : List ℕ) (k i : ℕ) (inv : indexOf l k ≡ indexOf (drop i l) k + i) (h : i + 3 < length l) where
+  abbrev At : ℕ → Type 0
+  At n = indexOf l k ≡ indexOf (drop n l) k + n
+
+  module _ (a : getD l i 0 ≡ k → ⊥) where
+    one : At (i + 1)
+    one = index-more l k i inv (omega arith) a
+
+    pub index-second : getD l (i + 1) 0 ≡ k → i + 1 ≡ indexOf l k
+    index-second e = index-here l k (i + 1) one (omega arith) e
+
+    module _ (b : getD l (i + 1) 0 ≡ k → ⊥) where
+      two : At (i + 2)
+      two = let e : i + 1 + 1 ≡ i + 2 = omega arith in subst At e (index-more l k (i + 1) one (omega arith) b)
+
+      pub index-third : getD l (i + 2) 0 ≡ k → i + 2 ≡ indexOf l k
+      index-third e = index-here l k (i + 2) two (omega arith) e
+
+      module _ (c : getD l (i + 2) 0 ≡ k → ⊥) where
+        three : At (i + 3)
+        three = let e : i + 2 + 1 ≡ i + 3 = omega arith in subst At e (index-more l k (i + 2) two (omega arith) c)
+
+        pub index-fourth : getD l (i + 3) 0 ≡ k → i + 3 ≡ indexOf l k
+        index-fourth e = index-here l k (i + 3) three h e
+
+        pub index-none : (getD l (i + 3) 0 ≡ k → ⊥) → indexOf l k ≡ indexOf (drop (i + 4) l) k + (i + 4)
+        index-none d = let e : i + 3 + 1 ≡ i + 4 = omega arith in subst At e (index-more l k (i + 3) three h d)
 
 -- ---- a letter's or digit's worth
 

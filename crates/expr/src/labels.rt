@@ -1,8 +1,8 @@
 // Labels: names, their numbers, and where they stand.
 ghost use mathlib.Core.Path.{_≡_};
 ghost use mathlib.Core.Bool.{true, cond, _||_};
-ghost use Prim.Native.Nat.{_≤_, _<_, _^_};
-ghost use lib.ListN.{length, getD};
+ghost use Prim.Native.Nat.{_+_, _≤_, _<_, _^_};
+ghost use lib.ListN.{length, getD, drop};
 ghost use Rattle.expr.specs.Expr.{isLetter, isDigit, runOf, rankOf, keyOf, isName, indexOf, meaning, labels};
 use crate::Value;
 use crate::values::signed_word;
@@ -99,10 +99,11 @@ pub fn label(s: &[u8]) -> u64
     0
 }
 
-pub fn find(keys: &[u64], k: u64) -> usize
+fn find_from(keys: &[u64], k: u64, from: usize) -> usize
+    requires { ⌜ (from ≤ length (now keys)) × (indexOf (now keys) k ≡ indexOf (drop from (now keys)) k + from) ⌝ }
     ensures { λ r. ⌜ (r ≡ indexOf (now (keys .entry)) k) × (r ≤ length (now (keys .entry))) ⌝ }
 {
-    let mut i: usize = 0;
+    let mut i = from;
     while i < keys.len() {
         if keys[i] == k {
             return i;
@@ -110,6 +111,29 @@ pub fn find(keys: &[u64], k: u64) -> usize
         i += 1;
     }
     i
+}
+
+// Four at a time: texts look for many labels and mnemonics.
+pub fn find(keys: &[u64], k: u64) -> usize
+    ensures { λ r. ⌜ (r ≡ indexOf (now (keys .entry)) k) × (r ≤ length (now (keys .entry))) ⌝ }
+{
+    let mut i: usize = 0;
+    while i + 3 < keys.len() {
+        if keys[i] == k {
+            return i;
+        }
+        if keys[i + 1] == k {
+            return i + 1;
+        }
+        if keys[i + 2] == k {
+            return i + 2;
+        }
+        if keys[i + 3] == k {
+            return i + 3;
+        }
+        i += 4;
+    }
+    find_from(keys, k, i)
 }
 
 fn place(places: &[u32], i: usize) -> u32

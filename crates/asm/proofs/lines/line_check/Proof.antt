@@ -1,10 +1,10 @@
-use Rattle.asm.specs.Assemble.{lineCheck}
+use Rattle.asm.specs.Parts.{checkSure}
 use borrow.Author.Needs.{needs}
 use Rattle.asm.proofs.lines.line_check.Statement.{statement}
 use Rattle.asm.proofs.lines.line_check.Tie as tie
 
-is-known-as-requires : tie.Need-is-known-as-requires
-is-known-as-requires c κs = search needs
+is-sure-requires : tie.Need-is-sure-requires
+is-sure-requires c κs = search needs
 
 body-requires : tie.Need-body-requires
 body-requires c κs = search needs
@@ -25,18 +25,18 @@ value-check-requires : tie.Need-value-check-requires
 value-check-requires c κs = search needs
 
 returns : tie.Need-returns
-unfolding lineCheck
-returns c = rw (c .value-check .ensures, c .before .label-check .ensures, c .before .before .label-in .ensures, c .before .before .before .line-value .ensures, c .before .before .before .before .shape-of .ensures, c .before .before .before .before .before .body .ensures, ← (c .before .before .before .before .before .before .before .is-known-as .ensures), c .before .before .before .before .before .before .if1 .taken)
+unfolding checkSure
+returns c = rw (c .value-check .ensures, c .before .label-check .ensures, c .before .before .label-in .ensures, c .before .before .before .line-value .ensures, c .before .before .before .before .shape-of .ensures, c .before .before .before .before .before .body .ensures, ← (c .before .before .before .before .before .before .before .is-sure .ensures), c .before .before .before .before .before .before .if1 .taken)
 
 returns-2 : tie.Need-returns-2
-unfolding lineCheck
-returns-2 c = rw (← (c .before .is-known-as .ensures), c .if1 .left)
+unfolding checkSure
+returns-2 c = rw (← (c .before .is-sure .ensures), c .if1 .left)
 
 pub line-check-spec : {M : Type 1} → statement M
 line-check-spec =
     tie.close
     (tie.spec
-    is-known-as-requires
+    is-sure-requires
     body-requires
     shape-of-requires
     line-value-requires

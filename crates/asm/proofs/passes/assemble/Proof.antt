@@ -34,19 +34,23 @@ array-share-prefix-keys c = search needs
 
 slice-aggregate-assemble-with : tie.Need-slice-aggregate-assemble-with
 slice-aggregate-assemble-with c =
-    let e = c .before .before .before .before .collect .ensures .1 in
-    sym (length-take-le (c .before .before .before .before .collect .result) (c .before .before .before .before .collect .last .1 .1 .1 .0) (omega arith))
+    let e = c .before .before .before .before .collect .ensures .1 .0 in
+    sym (length-take-le (c .before .before .before .before .collect .result .count) (c .before .before .before .before .collect .last .1 .1 .1 .0) (omega arith))
 
 array-share-prefix-places : tie.Need-array-share-prefix-places
 array-share-prefix-places c = search needs
 
 slice-aggregate-assemble-with-2 : tie.Need-slice-aggregate-assemble-with-2
 slice-aggregate-assemble-with-2 c =
-    let e = c .before .before .before .before .before .collect .ensures .1 in
-    sym (length-take-le (c .before .before .before .before .before .collect .result) (c .before .before .before .before .before .collect .last .1 .1 .1 .1 .0) (omega arith))
+    let e = c .before .before .before .before .before .collect .ensures .1 .0 in
+    sym (length-take-le (c .before .before .before .before .before .collect .result .count) (c .before .before .before .before .before .collect .last .1 .1 .1 .1 .0) (omega arith))
 
 assemble-with-requires : tie.Need-assemble-with-requires
-assemble-with-requires c κs = (c .before .before .before .before .before .before .before .before .before .before .table .ensures, not-outside _ _ (sym (c .before .before .before .before .before .before .before .before .before .before .before .before .is-outside .ensures) ∙ c .before .before .before .before .before .before .before .before .before .before .before .if1 .left))
+assemble-with-requires c κs = (
+  c .before .before .before .before .before .before .before .before .before .before .table .ensures,
+  not-outside _ _ (sym (c .before .before .before .before .before .before .before .before .before .before .before .before .is-outside .ensures) ∙ c .before .before .before .before .before .before .before .before .before .before .before .if1 .left),
+  (λ e. sym (c .before .before .before .before .before .before .collect .ensures .1 .1) ∙ e),
+)
 
 same-length : tie.Need-same-length
 same-length c = search needs

@@ -1,29 +1,32 @@
 use Prim.Native.Nat.{_-_, _≤_}
-use mathlib.Core.Path.{_≡_, sym, ap, _∙_}
+use mathlib.Core.Path.{_≡_, refl, sym, ap, _∙_}
+use mathlib.Core.Bool.{_&&_}
 use native.Mathlib.Omega.{arith}
 use lib.ListN.{length, take, drop}
 use borrow.Author.Needs.{needs}
 use Rattle.expr.specs.Expr.{labels, none}
 use Rattle.forms.specs.Form.{linesOf, whatOf}
-use Rattle.asm.specs.Assemble.{addressOf, labelsOf}
 use Rattle.forms.proofs.Laws.{line-there}
-use Rattle.asm.proofs.Laws.{labels-on, labels-end}
+use Rattle.asm.specs.Parts.{allKnown}
+use Rattle.asm.specs.Assemble.{addressOf, labelsOf}
+use Rattle.asm.proofs.Laws.{labels-on, labels-end, known-on, known-end}
 use Rattle.asm.proofs.passes.collect.Statement.{statement}
 use Rattle.asm.proofs.passes.collect.Tie as tie
 
 abbrev Inv-loop : tie.InvT-loop
-Inv-loop text table start keys₀ places₀ count₀ a₀ at₀ keys places count a at =
+Inv-loop text table start keys₀ places₀ count₀ all₀ a₀ at₀ keys places count all a at =
     (at ≤ length text) × (count ≤ 256) × (length keys ≡ 256) × (length places ≡ 256)
     × (labelsOf (labels (take count keys) (take count places)) a (linesOf (drop at text)) ≡ labelsOf none (addressOf start) (linesOf text))
+    × ((all && allKnown (linesOf (drop at text))) ≡ allKnown (linesOf text))
 
 abbrev μ-loop : tie.MeasureT-loop
-μ-loop text table start keys₀ places₀ count₀ a₀ at₀ keys places count a at = length text - at
+μ-loop text table start keys₀ places₀ count₀ all₀ a₀ at₀ keys places count all a at = length text - at
 
 address-of-requires : tie.Need-address-of-requires Inv-loop μ-loop
 address-of-requires c κs = search needs
 
 loop-holds : tie.Need-loop-holds Inv-loop μ-loop
-loop-holds c = (omega arith, omega arith, c .before .before .before .before .pre .1, c .before .before .before .before .pre .2, rw (c .address-of .ensures))
+loop-holds c = (omega arith, omega arith, c .before .before .before .before .pre .1, c .before .before .before .before .pre .2, rw (c .address-of .ensures), refl)
 
 line-at-requires : tie.Need-line-at-requires Inv-loop μ-loop
 line-at-requires c κs = search needs
@@ -36,6 +39,9 @@ what-of-requires c κs = search needs
 
 is-known-as-requires : tie.Need-is-known-as-requires Inv-loop μ-loop
 is-known-as-requires c κs = search needs
+
+both-requires : tie.Need-both-requires Inv-loop μ-loop
+both-requires c κs = search needs
 
 label-for-requires : tie.Need-label-for-requires Inv-loop μ-loop
 label-for-requires c κs = search needs
@@ -54,20 +60,21 @@ add-at c = search needs
 
 loop-less : tie.Need-loop-less Inv-loop μ-loop
 loop-less c =
-    let g = line-there (c .before .before .before .before .before .before .before .before .before .before .before .before .before .before .before .before .before .before .before .before .args .text .now) (c .before .before .before .before .before .before .before .before .before .before .before .before .before .line-at .result .now) (c .before .before .before .before .before .before .before .before .before .before .before .before .before .before .before .loop .at) (c .before .before .before .before .before .before .before .before .before .before .before .before .before .before .loop-test .taken) (c .before .before .before .before .before .before .before .before .before .before .before .before .before .line-at .ensures) in
+    let g = line-there (c .before .before .before .before .before .before .before .before .before .before .before .before .before .before .before .before .before .before .before .before .before .args .text .now) (c .before .before .before .before .before .before .before .before .before .before .before .before .before .before .line-at .result .now) (c .before .before .before .before .before .before .before .before .before .before .before .before .before .before .before .before .loop .at) (c .before .before .before .before .before .before .before .before .before .before .before .before .before .before .before .loop-test .taken) (c .before .before .before .before .before .before .before .before .before .before .before .before .before .before .line-at .ensures) in
     let w = g .within in
     let p = g .some in
     omega arith
 
 loop-again : tie.Need-loop-again Inv-loop μ-loop
 loop-again c =
-    let g = line-there (c .before .before .before .before .before .before .before .before .before .before .before .before .before .before .before .before .before .before .before .before .args .text .now) (c .before .before .before .before .before .before .before .before .before .before .before .before .before .line-at .result .now) (c .before .before .before .before .before .before .before .before .before .before .before .before .before .before .before .loop .at) (c .before .before .before .before .before .before .before .before .before .before .before .before .before .before .loop-test .taken) (c .before .before .before .before .before .before .before .before .before .before .before .before .before .line-at .ensures) in
+    let g = line-there (c .before .before .before .before .before .before .before .before .before .before .before .before .before .before .before .before .before .before .before .before .before .args .text .now) (c .before .before .before .before .before .before .before .before .before .before .before .before .before .before .line-at .result .now) (c .before .before .before .before .before .before .before .before .before .before .before .before .before .before .before .before .loop .at) (c .before .before .before .before .before .before .before .before .before .before .before .before .before .before .before .loop-test .taken) (c .before .before .before .before .before .before .before .before .before .before .before .before .before .before .line-at .ensures) in
     let e = c .before .before .before .before .before .before .add-label .ensures in (
       g .within,
       e .1 .0,
       e .1 .1,
       e .1 .2,
-      labels-on _ _ _ _ _ _ _ _ _ _ _ (g .lines) (c .before .before .before .before .before .before .before .before .before .before .before .what-of .ensures ∙ ap whatOf (c .before .before .before .before .before .before .before .before .before .before .before .before .body .ensures)) (c .before .before .before .before .before .before .before .before .before .before .is-known-as .ensures) (c .before .before .before .before .before .before .before .label-for .ensures) (e .0) (c .before .bytes-for .ensures) (c .byte-sum .ensures) ∙ c .before .before .before .before .before .before .before .before .before .before .before .before .before .before .before .loop .inv .4,
+      labels-on _ _ _ _ _ _ _ _ _ _ _ (g .lines) (c .before .before .before .before .before .before .before .before .before .before .before .before .what-of .ensures ∙ ap whatOf (c .before .before .before .before .before .before .before .before .before .before .before .before .before .body .ensures)) (c .before .before .before .before .before .before .before .before .before .before .before .is-known-as .ensures) (c .before .before .before .before .before .before .before .label-for .ensures) (e .0) (c .before .bytes-for .ensures) (c .byte-sum .ensures) ∙ c .before .before .before .before .before .before .before .before .before .before .before .before .before .before .before .before .loop .inv .4,
+      known-on _ _ _ _ (c .before .before .before .before .before .before .before .before .before .before .before .before .before .before .before .before .loop .all) _ _ (g .lines) (c .before .before .before .before .before .before .before .before .before .before .before .before .what-of .ensures ∙ ap whatOf (c .before .before .before .before .before .before .before .before .before .before .before .before .before .body .ensures)) (c .before .before .before .before .before .before .before .before .before .before .before .is-known-as .ensures) (c .before .before .before .before .before .before .before .before .before .before .both .ensures) ∙ c .before .before .before .before .before .before .before .before .before .before .before .before .before .before .before .before .loop .inv .5,
     )
 
 same-length : tie.Need-same-length Inv-loop μ-loop
@@ -79,7 +86,10 @@ same-length-2 c = search needs
 returns : tie.Need-returns Inv-loop μ-loop
 returns c =
     let i = c .before .loop .inv in
-    (sym (labels-end (c .before .before .before .before .before .before .args .text .now) (c .before .loop .at) (c .loop-test .left) _ _) ∙ i .4, (i .1, i .2, i .3))
+    let x = c .before .before .before .before .before .before .args .text .now in (
+      sym (labels-end x (c .before .loop .at) (c .loop-test .left) _ _) ∙ i .4,
+      ((i .1, i .2, i .3), known-end x (c .before .loop .at) (c .loop-test .left) (c .before .loop .all) ∙ i .5),
+    )
 
 pub collect-spec : {M : Type 1} → statement M
 collect-spec =
@@ -93,6 +103,7 @@ collect-spec =
     body-requires
     what-of-requires
     is-known-as-requires
+    both-requires
     label-for-requires
     add-label-requires
     bytes-for-requires

@@ -1,3 +1,5 @@
+use Rattle.asm.specs.Parts.{allKnown, checkSure}
+use mathlib.Core.Bool.{true}
 use Prim.Native.Nat.{_+_, _-_, _^_, _<_, _≤_}
 use mathlib.Core.Path.{_≡_, refl, sym, ap, ap₂, _∙_}
 use mathlib.Core.List.{[]}
@@ -9,24 +11,24 @@ use borrow.Author.Needs.{needs}
 use Rattle.expr.specs.Expr.{labels}
 use Rattle.forms.specs.Form.{linesOf, whatOf}
 use Rattle.asm.specs.declared.Checked.{Checked}
-use Rattle.asm.specs.Assemble.{lineCheck, verdictOf}
+use Rattle.asm.specs.Assemble.{verdictOf}
 use Rattle.word.specs.declared.ByteAddr.{ByteAddr}
 use Rattle.forms.proofs.Laws.{line-there}
-use Rattle.asm.proofs.Laws.{fine-room, verdict-on, verdict-stops, verdict-end}
+use Rattle.asm.proofs.Laws.{fine-room, verdict-on, verdict-stops, verdict-end, first-known, rest-known, sure-check}
 use Rattle.asm.proofs.passes.judge.Statement.{statement}
 use Rattle.asm.proofs.passes.judge.Tie as tie
 
 abbrev Inv-loop : tie.InvT-loop
-Inv-loop text table start end keys places seen₀ count₀ to₀ lines₀ at₀ seen count to lines at =
+Inv-loop sure text table start end keys places seen₀ count₀ to₀ lines₀ at₀ seen count to lines at =
     (at ≤ length text) × (count ≤ 256) × (length seen ≡ 256) × (to ≤ end) × (lines ≤ at)
     × (verdictOf (labels keys places) (take count seen) to end lines (linesOf (drop at text)) ≡ verdictOf (labels keys places) [] start end 0 (linesOf text))
-    × (length text < 2 ^ 64)
+    × (length text < 2 ^ 64) × (sure ≡ true → allKnown (linesOf (drop at text)) ≡ true)
 
 abbrev μ-loop : tie.MeasureT-loop
-μ-loop text table start end keys places seen₀ count₀ to₀ lines₀ at₀ seen count to lines at = length text - at
+μ-loop sure text table start end keys places seen₀ count₀ to₀ lines₀ at₀ seen count to lines at = length text - at
 
 loop-holds : tie.Need-loop-holds Inv-loop μ-loop
-loop-holds c = (omega arith, omega arith, c .before .before .before .before .pre .1, c .before .before .before .before .pre .2, omega arith, refl, search needs)
+loop-holds c = (omega arith, omega arith, c .before .before .before .before .pre .1, c .before .before .before .before .pre .2, omega arith, refl, search needs, c .before .before .before .before .pre .3)
 
 line-at-requires : tie.Need-line-at-requires Inv-loop μ-loop
 line-at-requires c κs = search needs
@@ -45,15 +47,15 @@ room-check-requires c κs = search needs
 
 slice-reshare-prefix-line-check : tie.Need-slice-reshare-prefix-line-check Inv-loop μ-loop
 slice-reshare-prefix-line-check c =
-    let i = c .before .before .before .before .before .before .loop .inv .1 in
-    let j = c .before .before .before .before .before .before .loop .inv .2 in
+    let i = c .before .before .before .before .before .before .before .loop .inv .1 in
+    let j = c .before .before .before .before .before .before .before .loop .inv .2 in
     omega arith
 
 slice-aggregate-line-check : tie.Need-slice-aggregate-line-check Inv-loop μ-loop
 slice-aggregate-line-check c =
-    let i = c .before .before .before .before .before .before .before .loop .inv .1 in
-    let j = c .before .before .before .before .before .before .before .loop .inv .2 in
-    sym (length-take-le (c .before .before .before .before .before .before .before .loop .count) (c .before .before .before .before .before .before .before .loop .seen) (omega arith))
+    let i = c .before .before .before .before .before .before .before .before .loop .inv .1 in
+    let j = c .before .before .before .before .before .before .before .before .loop .inv .2 in
+    sym (length-take-le (c .before .before .before .before .before .before .before .before .loop .count) (c .before .before .before .before .before .before .before .before .loop .seen) (omega arith))
 
 address-of-requires : tie.Need-address-of-requires Inv-loop μ-loop
 address-of-requires c κs = search needs
@@ -75,7 +77,7 @@ cast-to c = search needs
 
 add-to : tie.Need-add-to Inv-loop μ-loop
 add-to c =
-    let h = fine-room _ _ _ _ _ _ _ _ (sym (c .before .before .before .before .before .before .before .line-check .ensures ∙ ap₂ (λ (x : ByteAddr) (y : Checked). lineCheck (labels (c .before .before .before .before .before .before .before .before .before .before .before .before .before .before .before .before .before .before .before .before .before .args .keys .now) (c .before .before .before .before .before .before .before .before .before .before .before .before .before .before .before .before .before .before .before .before .before .args .places .now)) (take (c .before .before .before .before .before .before .before .before .before .before .before .before .before .before .before .before .loop .count) (c .before .before .before .before .before .before .before .before .before .before .before .before .before .before .before .before .loop .seen)) x y (c .before .before .before .before .before .before .before .before .before .before .before .before .what-of .result) (c .before .before .before .before .before .before .before .before .before .before .before .before .before .before .line-at .result .now)) (c .before .before .before .before .before .before .before .before .address-of .ensures) (c .before .before .before .before .before .before .before .before .before .before .room-check .ensures)) ∙ c .before .before .before .before .before .enum-told .given .1) in
+    let h = fine-room _ _ _ _ _ _ _ _ (sym (c .before .before .before .before .before .before .before .line-check .ensures ∙ ap₂ (λ (x : ByteAddr) (y : Checked). checkSure (c .before .before .before .before .before .before .before .before .before .before .before .before .before .before .before .before .before .before .before .before .before .args .sure) (labels (c .before .before .before .before .before .before .before .before .before .before .before .before .before .before .before .before .before .before .before .before .before .args .keys .now) (c .before .before .before .before .before .before .before .before .before .before .before .before .before .before .before .before .before .before .before .before .before .args .places .now)) (take (c .before .before .before .before .before .before .before .before .before .before .before .before .before .before .before .before .loop .count) (c .before .before .before .before .before .before .before .before .before .before .before .before .before .before .before .before .loop .seen)) x y (c .before .before .before .before .before .before .before .before .before .before .before .before .what-of .result) (c .before .before .before .before .before .before .before .before .before .before .before .before .before .before .line-at .result .now)) (c .before .before .before .before .before .before .before .before .before .address-of .ensures) (c .before .before .before .before .before .before .before .before .before .before .room-check .ensures) ∙ sure-check (c .before .before .before .before .before .before .before .before .before .before .before .before .before .before .before .before .before .before .before .before .before .args .sure) (labels (c .before .before .before .before .before .before .before .before .before .before .before .before .before .before .before .before .before .before .before .before .before .args .keys .now) (c .before .before .before .before .before .before .before .before .before .before .before .before .before .before .before .before .before .before .before .before .before .args .places .now)) (take (c .before .before .before .before .before .before .before .before .before .before .before .before .before .before .before .before .loop .count) (c .before .before .before .before .before .before .before .before .before .before .before .before .before .before .before .before .loop .seen)) _ _ (c .before .before .before .before .before .before .before .before .before .before .before .before .what-of .result) (c .before .before .before .before .before .before .before .before .before .before .before .before .before .before .line-at .result .now) (λ e. first-known _ _ (c .before .before .before .before .before .before .before .before .before .before .before .before .before .before .line-at .result .now) (c .before .before .before .before .before .before .before .before .before .before .before .before .what-of .result) (line-there (c .before .before .before .before .before .before .before .before .before .before .before .before .before .before .before .before .before .before .before .before .before .args .text .now) (c .before .before .before .before .before .before .before .before .before .before .before .before .before .before .line-at .result .now) (c .before .before .before .before .before .before .before .before .before .before .before .before .before .before .before .before .loop .at) (c .before .before .before .before .before .before .before .before .before .before .before .before .before .before .before .loop-test .taken) (c .before .before .before .before .before .before .before .before .before .before .before .before .before .before .line-at .ensures) .lines) (c .before .before .before .before .before .before .before .before .before .before .before .before .what-of .ensures ∙ ap whatOf (c .before .before .before .before .before .before .before .before .before .before .before .before .before .body .ensures)) (c .before .before .before .before .before .before .before .before .before .before .before .before .before .before .before .before .loop .inv .7 e))) ∙ c .before .before .before .before .before .enum-told .given .1) in
     let f = c .before .before .before .before .before .before .before .before .before .before .before .before .before .before .before .before .before .before .before .before .before .fits .end in
     omega arith
 
@@ -110,17 +112,18 @@ loop-again c =
       g .within,
       e .1,
       e .2,
-      fine-room _ _ _ _ _ _ _ _ (sym (c .before .before .before .before .before .before .before .line-check .ensures ∙ ap₂ (λ (x : ByteAddr) (y : Checked). lineCheck (labels (c .before .before .before .before .before .before .before .before .before .before .before .before .before .before .before .before .before .before .before .before .before .args .keys .now) (c .before .before .before .before .before .before .before .before .before .before .before .before .before .before .before .before .before .before .before .before .before .args .places .now)) (take (c .before .before .before .before .before .before .before .before .before .before .before .before .before .before .before .before .loop .count) (c .before .before .before .before .before .before .before .before .before .before .before .before .before .before .before .before .loop .seen)) x y (c .before .before .before .before .before .before .before .before .before .before .before .before .what-of .result) (c .before .before .before .before .before .before .before .before .before .before .before .before .before .before .line-at .result .now)) (c .before .before .before .before .before .before .before .before .address-of .ensures) (c .before .before .before .before .before .before .before .before .before .before .room-check .ensures)) ∙ c .before .before .before .before .before .enum-told .given .1),
+      fine-room _ _ _ _ _ _ _ _ (sym (c .before .before .before .before .before .before .before .line-check .ensures ∙ ap₂ (λ (x : ByteAddr) (y : Checked). checkSure (c .before .before .before .before .before .before .before .before .before .before .before .before .before .before .before .before .before .before .before .before .before .args .sure) (labels (c .before .before .before .before .before .before .before .before .before .before .before .before .before .before .before .before .before .before .before .before .before .args .keys .now) (c .before .before .before .before .before .before .before .before .before .before .before .before .before .before .before .before .before .before .before .before .before .args .places .now)) (take (c .before .before .before .before .before .before .before .before .before .before .before .before .before .before .before .before .loop .count) (c .before .before .before .before .before .before .before .before .before .before .before .before .before .before .before .before .loop .seen)) x y (c .before .before .before .before .before .before .before .before .before .before .before .before .what-of .result) (c .before .before .before .before .before .before .before .before .before .before .before .before .before .before .line-at .result .now)) (c .before .before .before .before .before .before .before .before .before .address-of .ensures) (c .before .before .before .before .before .before .before .before .before .before .room-check .ensures) ∙ sure-check (c .before .before .before .before .before .before .before .before .before .before .before .before .before .before .before .before .before .before .before .before .before .args .sure) (labels (c .before .before .before .before .before .before .before .before .before .before .before .before .before .before .before .before .before .before .before .before .before .args .keys .now) (c .before .before .before .before .before .before .before .before .before .before .before .before .before .before .before .before .before .before .before .before .before .args .places .now)) (take (c .before .before .before .before .before .before .before .before .before .before .before .before .before .before .before .before .loop .count) (c .before .before .before .before .before .before .before .before .before .before .before .before .before .before .before .before .loop .seen)) _ _ (c .before .before .before .before .before .before .before .before .before .before .before .before .what-of .result) (c .before .before .before .before .before .before .before .before .before .before .before .before .before .before .line-at .result .now) (λ e. first-known _ _ (c .before .before .before .before .before .before .before .before .before .before .before .before .before .before .line-at .result .now) (c .before .before .before .before .before .before .before .before .before .before .before .before .what-of .result) (line-there (c .before .before .before .before .before .before .before .before .before .before .before .before .before .before .before .before .before .before .before .before .before .args .text .now) (c .before .before .before .before .before .before .before .before .before .before .before .before .before .before .line-at .result .now) (c .before .before .before .before .before .before .before .before .before .before .before .before .before .before .before .before .loop .at) (c .before .before .before .before .before .before .before .before .before .before .before .before .before .before .before .loop-test .taken) (c .before .before .before .before .before .before .before .before .before .before .before .before .before .before .line-at .ensures) .lines) (c .before .before .before .before .before .before .before .before .before .before .before .before .what-of .ensures ∙ ap whatOf (c .before .before .before .before .before .before .before .before .before .before .before .before .before .body .ensures)) (c .before .before .before .before .before .before .before .before .before .before .before .before .before .before .before .before .loop .inv .7 e))) ∙ c .before .before .before .before .before .enum-told .given .1),
       omega arith,
-      verdict-on _ _ _ _ _ _ _ _ _ _ _ _ _ _ (g .lines) (c .before .before .before .before .before .before .before .before .before .before .before .before .what-of .ensures ∙ ap whatOf (c .before .before .before .before .before .before .before .before .before .before .before .before .before .body .ensures)) (c .before .before .before .before .before .before .before .before .before .before .before .bytes-for .ensures) (c .before .before .before .before .before .before .before .line-check .ensures ∙ ap₂ (λ (x : ByteAddr) (y : Checked). lineCheck (labels (c .before .before .before .before .before .before .before .before .before .before .before .before .before .before .before .before .before .before .before .before .before .args .keys .now) (c .before .before .before .before .before .before .before .before .before .before .before .before .before .before .before .before .before .before .before .before .before .args .places .now)) (take (c .before .before .before .before .before .before .before .before .before .before .before .before .before .before .before .before .loop .count) (c .before .before .before .before .before .before .before .before .before .before .before .before .before .before .before .before .loop .seen)) x y (c .before .before .before .before .before .before .before .before .before .before .before .before .what-of .result) (c .before .before .before .before .before .before .before .before .before .before .before .before .before .before .line-at .result .now)) (c .before .before .before .before .before .before .before .before .address-of .ensures) (c .before .before .before .before .before .before .before .before .before .before .room-check .ensures)) (c .before .before .before .before .before .enum-told .given .1) (c .before .before .before .label-in .ensures) (e .0) (add-one _) ∙ c .before .before .before .before .before .before .before .before .before .before .before .before .before .before .before .before .loop .inv .5,
+      verdict-on _ _ _ _ _ _ _ _ _ _ _ _ _ _ (g .lines) (c .before .before .before .before .before .before .before .before .before .before .before .before .what-of .ensures ∙ ap whatOf (c .before .before .before .before .before .before .before .before .before .before .before .before .before .body .ensures)) (c .before .before .before .before .before .before .before .before .before .before .before .bytes-for .ensures) (c .before .before .before .before .before .before .before .line-check .ensures ∙ ap₂ (λ (x : ByteAddr) (y : Checked). checkSure (c .before .before .before .before .before .before .before .before .before .before .before .before .before .before .before .before .before .before .before .before .before .args .sure) (labels (c .before .before .before .before .before .before .before .before .before .before .before .before .before .before .before .before .before .before .before .before .before .args .keys .now) (c .before .before .before .before .before .before .before .before .before .before .before .before .before .before .before .before .before .before .before .before .before .args .places .now)) (take (c .before .before .before .before .before .before .before .before .before .before .before .before .before .before .before .before .loop .count) (c .before .before .before .before .before .before .before .before .before .before .before .before .before .before .before .before .loop .seen)) x y (c .before .before .before .before .before .before .before .before .before .before .before .before .what-of .result) (c .before .before .before .before .before .before .before .before .before .before .before .before .before .before .line-at .result .now)) (c .before .before .before .before .before .before .before .before .before .address-of .ensures) (c .before .before .before .before .before .before .before .before .before .before .room-check .ensures) ∙ sure-check (c .before .before .before .before .before .before .before .before .before .before .before .before .before .before .before .before .before .before .before .before .before .args .sure) (labels (c .before .before .before .before .before .before .before .before .before .before .before .before .before .before .before .before .before .before .before .before .before .args .keys .now) (c .before .before .before .before .before .before .before .before .before .before .before .before .before .before .before .before .before .before .before .before .before .args .places .now)) (take (c .before .before .before .before .before .before .before .before .before .before .before .before .before .before .before .before .loop .count) (c .before .before .before .before .before .before .before .before .before .before .before .before .before .before .before .before .loop .seen)) _ _ (c .before .before .before .before .before .before .before .before .before .before .before .before .what-of .result) (c .before .before .before .before .before .before .before .before .before .before .before .before .before .before .line-at .result .now) (λ e. first-known _ _ (c .before .before .before .before .before .before .before .before .before .before .before .before .before .before .line-at .result .now) (c .before .before .before .before .before .before .before .before .before .before .before .before .what-of .result) (line-there (c .before .before .before .before .before .before .before .before .before .before .before .before .before .before .before .before .before .before .before .before .before .args .text .now) (c .before .before .before .before .before .before .before .before .before .before .before .before .before .before .line-at .result .now) (c .before .before .before .before .before .before .before .before .before .before .before .before .before .before .before .before .loop .at) (c .before .before .before .before .before .before .before .before .before .before .before .before .before .before .before .loop-test .taken) (c .before .before .before .before .before .before .before .before .before .before .before .before .before .before .line-at .ensures) .lines) (c .before .before .before .before .before .before .before .before .before .before .before .before .what-of .ensures ∙ ap whatOf (c .before .before .before .before .before .before .before .before .before .before .before .before .before .body .ensures)) (c .before .before .before .before .before .before .before .before .before .before .before .before .before .before .before .before .loop .inv .7 e))) (c .before .before .before .before .before .enum-told .given .1) (c .before .before .before .label-in .ensures) (e .0) (add-one _) ∙ c .before .before .before .before .before .before .before .before .before .before .before .before .before .before .before .before .loop .inv .5,
       c .before .before .before .before .before .before .before .before .before .before .before .before .before .before .before .before .loop .inv .6,
+      (λ e. rest-known _ _ _ _ (g .lines) (c .before .before .before .before .before .before .before .before .before .before .before .before .what-of .ensures ∙ ap whatOf (c .before .before .before .before .before .before .before .before .before .before .before .before .before .body .ensures)) (c .before .before .before .before .before .before .before .before .before .before .before .before .before .before .before .before .loop .inv .7 e)),
     )
 
 enum-known-checked : tie.Need-enum-known-checked Inv-loop μ-loop
 enum-known-checked c = c .match .keys2
 
-add-t28 : tie.Need-add-t28 Inv-loop μ-loop
-add-t28 c = search needs
+add-t29 : tie.Need-add-t29 Inv-loop μ-loop
+add-t29 c = search needs
 
 same-length : tie.Need-same-length Inv-loop μ-loop
 same-length c = search needs
@@ -128,7 +131,7 @@ same-length c = search needs
 returns : tie.Need-returns Inv-loop μ-loop
 returns c =
     let g = line-there (c .before .before .before .before .before .before .before .before .before .before .before .before .before .before .before .before .before .args .text .now) (c .before .before .before .before .before .before .before .before .before .before .line-at .result .now) (c .before .before .before .before .before .before .before .before .before .before .before .before .loop .at) (c .before .before .before .before .before .before .before .before .before .before .before .loop-test .taken) (c .before .before .before .before .before .before .before .before .before .before .line-at .ensures) in
-    verdict-stops _ _ _ _ _ _ _ _ _ _ _ _ _ (g .lines) (c .before .before .before .before .before .before .before .before .what-of .ensures ∙ ap whatOf (c .before .before .before .before .before .before .before .before .before .body .ensures)) (c .before .before .before .before .before .before .before .bytes-for .ensures) (c .before .before .before .line-check .ensures ∙ ap₂ (λ (x : ByteAddr) (y : Checked). lineCheck (labels (c .before .before .before .before .before .before .before .before .before .before .before .before .before .before .before .before .before .args .keys .now) (c .before .before .before .before .before .before .before .before .before .before .before .before .before .before .before .before .before .args .places .now)) (take (c .before .before .before .before .before .before .before .before .before .before .before .before .loop .count) (c .before .before .before .before .before .before .before .before .before .before .before .before .loop .seen)) x y (c .before .before .before .before .before .before .before .before .what-of .result) (c .before .before .before .before .before .before .before .before .before .before .line-at .result .now)) (c .before .before .before .before .address-of .ensures) (c .before .before .before .before .before .before .room-check .ensures)) (c .before .checked .given .1) (add-one _) ∙ c .before .before .before .before .before .before .before .before .before .before .before .before .loop .inv .5
+    verdict-stops _ _ _ _ _ _ _ _ _ _ _ _ _ (g .lines) (c .before .before .before .before .before .before .before .before .what-of .ensures ∙ ap whatOf (c .before .before .before .before .before .before .before .before .before .body .ensures)) (c .before .before .before .before .before .before .before .bytes-for .ensures) (c .before .before .before .line-check .ensures ∙ ap₂ (λ (x : ByteAddr) (y : Checked). checkSure (c .before .before .before .before .before .before .before .before .before .before .before .before .before .before .before .before .before .args .sure) (labels (c .before .before .before .before .before .before .before .before .before .before .before .before .before .before .before .before .before .args .keys .now) (c .before .before .before .before .before .before .before .before .before .before .before .before .before .before .before .before .before .args .places .now)) (take (c .before .before .before .before .before .before .before .before .before .before .before .before .loop .count) (c .before .before .before .before .before .before .before .before .before .before .before .before .loop .seen)) x y (c .before .before .before .before .before .before .before .before .what-of .result) (c .before .before .before .before .before .before .before .before .before .before .line-at .result .now)) (c .before .before .before .before .before .address-of .ensures) (c .before .before .before .before .before .before .room-check .ensures) ∙ sure-check (c .before .before .before .before .before .before .before .before .before .before .before .before .before .before .before .before .before .args .sure) (labels (c .before .before .before .before .before .before .before .before .before .before .before .before .before .before .before .before .before .args .keys .now) (c .before .before .before .before .before .before .before .before .before .before .before .before .before .before .before .before .before .args .places .now)) (take (c .before .before .before .before .before .before .before .before .before .before .before .before .loop .count) (c .before .before .before .before .before .before .before .before .before .before .before .before .loop .seen)) _ _ (c .before .before .before .before .before .before .before .before .what-of .result) (c .before .before .before .before .before .before .before .before .before .before .line-at .result .now) (λ e. first-known _ _ (c .before .before .before .before .before .before .before .before .before .before .line-at .result .now) (c .before .before .before .before .before .before .before .before .what-of .result) (line-there (c .before .before .before .before .before .before .before .before .before .before .before .before .before .before .before .before .before .args .text .now) (c .before .before .before .before .before .before .before .before .before .before .line-at .result .now) (c .before .before .before .before .before .before .before .before .before .before .before .before .loop .at) (c .before .before .before .before .before .before .before .before .before .before .before .loop-test .taken) (c .before .before .before .before .before .before .before .before .before .before .line-at .ensures) .lines) (c .before .before .before .before .before .before .before .before .what-of .ensures ∙ ap whatOf (c .before .before .before .before .before .before .before .before .before .body .ensures)) (c .before .before .before .before .before .before .before .before .before .before .before .before .loop .inv .7 e))) (c .before .checked .given .1) (add-one _) ∙ c .before .before .before .before .before .before .before .before .before .before .before .before .loop .inv .5
 
 same-length-2 : tie.Need-same-length-2 Inv-loop μ-loop
 same-length-2 c = search needs
@@ -148,9 +151,9 @@ judge-spec =
     what-of-requires
     bytes-for-requires
     room-check-requires
+    address-of-requires
     slice-reshare-prefix-line-check
     slice-aggregate-line-check
-    address-of-requires
     line-check-requires
     enum-told
     label-in-requires
@@ -162,7 +165,7 @@ judge-spec =
     loop-less
     loop-again
     enum-known-checked
-    add-t28
+    add-t29
     same-length
     returns
     same-length-2

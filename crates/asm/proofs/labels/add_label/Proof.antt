@@ -3,8 +3,8 @@ use native.Mathlib.Omega.{arith}
 use mathlib.Core.Path.{sym, _∙_}
 use Rattle.asm.proofs.Laws.{whole-names, has-place, fewer, same-size, more-labels, same-labels}
 use borrow.Author.Needs.{needs}
-use Rattle.asm.proofs.passes.add_label.Statement.{statement}
-use Rattle.asm.proofs.passes.add_label.Tie as tie
+use Rattle.asm.proofs.labels.add_label.Statement.{statement}
+use Rattle.asm.proofs.labels.add_label.Tie as tie
 
 slice-reshare-prefix-is-new : tie.Need-slice-reshare-prefix-is-new
 slice-reshare-prefix-is-new c = search needs

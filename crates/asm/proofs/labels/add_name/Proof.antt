@@ -1,8 +1,8 @@
 use mathlib.Core.Path.{sym, _∙_}
 use Rattle.asm.proofs.Laws.{whole-names, has-place, fewer, same-size, more-names, same-names}
 use borrow.Author.Needs.{needs}
-use Rattle.asm.proofs.passes.add_name.Statement.{statement}
-use Rattle.asm.proofs.passes.add_name.Tie as tie
+use Rattle.asm.proofs.labels.add_name.Statement.{statement}
+use Rattle.asm.proofs.labels.add_name.Tie as tie
 
 slice-reshare-prefix-is-new : tie.Need-slice-reshare-prefix-is-new
 slice-reshare-prefix-is-new c = search needs

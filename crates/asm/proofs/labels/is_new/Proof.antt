@@ -1,7 +1,7 @@
 use borrow.Author.Tests.{lt-ltb, le-ltb, eq-eqb, ne-eqb}
 use borrow.Author.Needs.{needs}
-use Rattle.asm.proofs.lines.is_new.Statement.{statement}
-use Rattle.asm.proofs.lines.is_new.Tie as tie
+use Rattle.asm.proofs.labels.is_new.Statement.{statement}
+use Rattle.asm.proofs.labels.is_new.Tie as tie
 
 returns : tie.Need-returns
 returns c = rw (eq-eqb _ _ (c .if1 .taken))
