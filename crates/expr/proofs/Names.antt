@@ -43,15 +43,6 @@ pub all-named : (c : ℕ) (s : List ℕ) → runOf (c ∷ s) ≡ length (c ∷ s
 unfolding runOf
 all-named c s e = both-true (named c) (runOf s) (length s) e
 
-pub named-at : (s : List ℕ) (i : ℕ) → runOf s ≡ length s → i < length s → named (getD s i 0) ≡ true
-named-at [] i e h = absurd (omega arith)
-named-at (c ∷ s) zero e h = all-named c s e .0
-named-at (c ∷ s) (suc i) e h = named-at s i (all-named c s e .1) (omega arith)
-
-pub some-name : (s : List ℕ) → isLetter (getD s 0 0) ≡ true → 0 < length s
-some-name [] e = let z : _≡_ {A = ℕ} 0 1 = cc in absurd (omega arith)
-some-name (c ∷ s) e = omega arith
-
 -- the letters and digits that lead are all that a word has
 pub run-most : (s : List ℕ) → runOf s ≤ length s
 unfolding runOf
@@ -61,18 +52,6 @@ run-most (c ∷ s) = go (named c) (run-most s)
     go : (t : Bool) → runOf s ≤ length s → cond t (suc (runOf s)) 0 ≤ suc (length s)
     go true h = omega arith
     go false h = omega arith
-
-pub run-word : (s : List ℕ) → runOf (take (runOf s) s) ≡ length (take (runOf s) s)
-unfolding runOf
-run-word [] = refl
-run-word (c ∷ s) = go (named c) refl (run-word s)
-  where
-    go : (t : Bool) → named c ≡ t → runOf (take (runOf s) s) ≡ length (take (runOf s) s) → runOf (take (cond t (suc (runOf s)) 0) (c ∷ s)) ≡ length (take (cond t (suc (runOf s)) 0) (c ∷ s))
-    go true e h = rw e (ap suc h)
-    go false e h = refl
-
-pub run-of : (s : List ℕ) (n : ℕ) → n ≡ runOf s → runOf (take n s) ≡ length (take n s)
-run-of s n e = rw e (run-word s)
 
 -- what is read of a part is not longer than the whole
 pub size-in : (s : List ℕ) (n x : ℕ) → x ≤ length (take n s) → x ≤ length s

@@ -27,7 +27,7 @@ number-requires : tie.Need-number-requires
 number-requires c κs = search needs
 
 returns-2 : tie.Need-returns-2
-returns-2 c = 
+returns-2 c =
     let s = c .before .before .before .before .before .before .before .before .before .args .s .now in
     let e = first-letter s _ _ _ (c .before .before .before .before .before .byte .ensures) (c .before .before .before .before .is-letter .ensures) (c .before .before .before .if1 .left) in
     (other-leaf _ s _ _ e (c .before .before .run .ensures .0) (c .number .ensures .0), size-in s (c .before .before .run .result) _ (c .number .ensures .1))
