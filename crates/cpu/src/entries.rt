@@ -1,7 +1,9 @@
 // Entries, breakpoints, watchpoints and the timer.
 ghost use mathlib.Core.Path.{_≡_};
-ghost use mathlib.Core.Bool.{_&&_};
+ghost use mathlib.Core.Bool.{true, _&&_};
 ghost use lib.Dec.{eqb};
+ghost use Rattle.word.specs.Bits.{withBit};
+ghost use Rattle.cpu.specs.Control.{withPsw};
 ghost use Rattle.cpu.specs.Entries.{vector, enter, entered, isBreak, watchHit, watchEntry, fallen};
 ghost use Rattle.cpu.specs.declared.Entry.{Entry};
 use crate::Control;
@@ -57,6 +59,13 @@ fn enter_external(i: u32, c: Control) -> Control
     enter_at(12, with_psw(c, word::with_bit(p, 1, true)))
 }
 
+// A bus error's bit of PSW says whether a fetch or data met it.
+fn enter_error(bit: u32, c: Control) -> Control
+    ensures { λ r. ⌜ r ≡ enter 16 (withPsw c (withBit (c .psw) bit true)) ⌝ }
+{
+    enter_at(16, with_psw(c, word::with_bit(c.psw, bit, true)))
+}
+
 pub fn enter(e: Entry, c: Control) -> Control
     ensures { λ r. ⌜ r ≡ entered e c ⌝ }
 {
@@ -66,6 +75,8 @@ pub fn enter(e: Entry, c: Control) -> Control
         Entry::Debug(hit) => enter_debug(hit, c),
         Entry::Timer => enter_timer(c),
         Entry::External(i) => enter_external(i, c),
+        Entry::FetchError => enter_error(15, c),
+        Entry::DataError => enter_error(14, c),
     }
 }
 

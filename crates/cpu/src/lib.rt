@@ -63,13 +63,15 @@ pub struct Sources {
     pub second: u32,
 }
 
-// An entry: a swint's four bits, the hit that a debug entry shows, and the line of an external one.
+// An entry: a swint's four bits, the hit that a debug entry shows, the line of an external one, and bus errors of a fetch and of data.
 pub enum Entry {
     Nothing,
     Swint(u32),
     Debug(u32),
     Timer,
     External(u32),
+    FetchError,
+    DataError,
 }
 
 // There are sixteen registers: this is none of them.

@@ -25,8 +25,8 @@ by-second d h a m k x e = ap (λ (y : Half). bySecond y d h) e
 
 -- a half's two tests, before what comes of it
 tests : (t u : Bool) (d : Kind) (h s : ℕ)
-    → cond t (Fetched.Stop Reply.FetchOutside) (cond u (Fetched.Stop Reply.FetchMarked) (decodedTo (operandsOf d h s)))
-    ≡ bySecond (cond t (Half.Stop Reply.FetchOutside) (cond u (Half.Stop Reply.FetchMarked) (Half.Bits s))) d h
+    → cond t Fetched.Outside (cond u (Fetched.Stop Reply.FetchMarked) (decodedTo (operandsOf d h s)))
+    ≡ bySecond (cond t Half.Outside (cond u (Half.Stop Reply.FetchMarked) (Half.Bits s))) d h
 tests true u d h s = refl
 tests false true d h s = refl
 tests false false d h s = refl
@@ -74,8 +74,8 @@ fetch-by-parts a m k =
   where
     go : (o t u : Bool)
         → cond o (Fetched.Stop Reply.NoInstruction)
-        (cond t (Fetched.Stop Reply.FetchOutside) (cond u (Fetched.Stop Reply.FetchMarked) (restBy (kindOf (halfAt m a / 256)) (halfAt m a) a m k)))
-        ≡ byFirst (cond o (Half.Stop Reply.NoInstruction) (cond t (Half.Stop Reply.FetchOutside) (cond u (Half.Stop Reply.FetchMarked) (Half.Bits (halfAt m a))))) a m k
+        (cond t Fetched.Outside (cond u (Fetched.Stop Reply.FetchMarked) (restBy (kindOf (halfAt m a / 256)) (halfAt m a) a m k)))
+        ≡ byFirst (cond o (Half.Stop Reply.NoInstruction) (cond t Half.Outside (cond u (Half.Stop Reply.FetchMarked) (Half.Bits (halfAt m a))))) a m k
     go true t u = refl
     go false true u = refl
     go false false true = refl

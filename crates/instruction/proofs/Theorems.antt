@@ -29,14 +29,14 @@ module _ (a : ByteAddr) (m k : List ℕ) where
   runs-what-decodes i e = go (eqb (a .0 % 2) 1) (not (inside m a 2)) (markedAt Width.Half k a) (decodedAt m a) e
     where
       second : (t u : Bool) (j : Instr)
-          → cond t (Fetched.Stop Reply.FetchOutside) (cond u (Fetched.Stop Reply.FetchMarked) (Fetched.Run j)) ≡ Fetched.Run i → Is i (Decoded.Long j)
+          → cond t Fetched.Outside (cond u (Fetched.Stop Reply.FetchMarked) (Fetched.Run j)) ≡ Fetched.Run i → Is i (Decoded.Long j)
       second true u j p = let z : _≡_ {A = ℕ} 0 1 = cc in absurd (omega arith)
       second false true j p = let z : _≡_ {A = ℕ} 0 1 = cc in absurd (omega arith)
       second false false j p = let q : i ≡ j = cc in subst (λ (n : Instr). Is i (Decoded.Long n)) q long
 
       go : (o t u : Bool) (d : Decoded)
           → cond o (Fetched.Stop Reply.NoInstruction)
-          (cond t (Fetched.Stop Reply.FetchOutside) (cond u (Fetched.Stop Reply.FetchMarked) (found d (afterHalf a) m k)))
+          (cond t Fetched.Outside (cond u (Fetched.Stop Reply.FetchMarked) (found d (afterHalf a) m k)))
           ≡ Fetched.Run i
           → Is i d
       go true t u d p = let z : _≡_ {A = ℕ} 0 1 = cc in absurd (omega arith)
@@ -64,14 +64,14 @@ module _ (a : ByteAddr) (m k : List ℕ) where
   thirteen-only-if-nothing o e = go (not (inside m a 2)) (markedAt Width.Half k a) (decodedAt m a) (rw o at e)
     where
       second : (t u : Bool) (j : Instr)
-          → cond t (Fetched.Stop Reply.FetchOutside) (cond u (Fetched.Stop Reply.FetchMarked) (Fetched.Run j)) ≡ Fetched.Stop Reply.NoInstruction
+          → cond t Fetched.Outside (cond u (Fetched.Stop Reply.FetchMarked) (Fetched.Run j)) ≡ Fetched.Stop Reply.NoInstruction
           → Decoded.Long j ≡ Decoded.Nothing
       second true u j p = let z : _≡_ {A = ℕ} 0 1 = cc in absurd (omega arith)
       second false true j p = let z : _≡_ {A = ℕ} 0 1 = cc in absurd (omega arith)
       second false false j p = let z : _≡_ {A = ℕ} 0 1 = cc in absurd (omega arith)
 
       go : (t u : Bool) (d : Decoded)
-          → cond t (Fetched.Stop Reply.FetchOutside) (cond u (Fetched.Stop Reply.FetchMarked) (found d (afterHalf a) m k))
+          → cond t Fetched.Outside (cond u (Fetched.Stop Reply.FetchMarked) (found d (afterHalf a) m k))
           ≡ Fetched.Stop Reply.NoInstruction
           → d ≡ Decoded.Nothing
       go true u d p = let z : _≡_ {A = ℕ} 0 1 = cc in absurd (omega arith)

@@ -1,5 +1,5 @@
 -- The fetch of an instruction (document 01: "first half outside, first half marked, not an instruction, second half outside, second half marked";
--- "A program counter found odd inside a run answers 13, before all these").
+-- "A program counter found odd inside a run answers 13, before all these"). A half outside memory is a bus error (document 02, ticket 5).
 -- Assumes nothing.
 use Prim.Native.Nat.{ℕ}
 use mathlib.Core.Bool.{cond, not}
@@ -24,7 +24,7 @@ afterHalf a = byteSum a 2
 -- a half at a is read: "outside", "marked", or what comes of it
 abbrev pub guarded : ByteAddr → List ℕ → List ℕ → Fetched → Fetched
 guarded a m k x =
-    cond (not (inside m a (bytesOf Width.Half))) (Fetched.Stop Reply.FetchOutside)
+    cond (not (inside m a (bytesOf Width.Half))) Fetched.Outside
     (cond (markedAt Width.Half k a) (Fetched.Stop Reply.FetchMarked) x)
 
 -- what the halves decode to; b is where the second one is, which only an instruction of four bytes has

@@ -8,7 +8,7 @@ ghost use Rattle.word.specs.declared.Width.{Width};
 ghost use Rattle.isa.specs.declared.Instr.{Instr};
 ghost use Rattle.cpu.specs.Exec.{exec, dataAddress};
 ghost use Rattle.marks.specs.Marks.{with, taint, shortBlocked, longBlocked};
-ghost use Rattle.instruction.specs.Act.{actOf};
+ghost use Rattle.instruction.specs.Act.{missing, actOf};
 ghost use Rattle.instruction.specs.Parts.{val, flags, loadAct, storeAct};
 ghost use Rattle.instruction.specs.declared.Reply.{Reply};
 ghost use Rattle.instruction.specs.declared.Reach.{Reach};
@@ -51,11 +51,11 @@ fn keep(tf: bool, cy: bool) -> Taint
     marks::mark_reg(false, tf, cy)
 }
 
-// "operand marked, data outside": a marked base stops before its address does.
-fn stop_outside(marked: bool) -> Act
-    ensures { λ r. ⌜ r ≡ cond marked (Act.Stop Reply.MarkedOperand) (Act.Stop Reply.DataOutside) ⌝ }
+// "operand marked, data outside": a marked base stops before its address is a bus error.
+fn miss(marked: bool, at: ByteAddr, tf: bool, cy: bool, c: Control) -> Act
+    ensures { λ r. ⌜ r ≡ cond marked (Act.Stop Reply.MarkedOperand) (missing (Reach.Outside at) (flags tf cy) c) ⌝ }
 {
-    stop_if(marked, Act::Stop(Reply::DataOutside))
+    stop_if(marked, Act::Does(cpu::stored(c), keep(tf, cy), Reach::Outside(at)))
 }
 
 fn load_at(
@@ -76,7 +76,7 @@ fn load_at(
         let t = marks::mark_reg(marks::is_marked(w, mk, at), tf, cy);
         return stop_if(marked, Act::Does(e, t, Reach::Reads(w, at)));
     }
-    stop_outside(marked)
+    miss(marked, at, tf, cy, c)
 }
 
 fn store_at(marked: bool, w: Width, at: ByteAddr, tf: bool, cy: bool, c: Control, m: &[u8]) -> Act
@@ -88,7 +88,7 @@ fn store_at(marked: bool, w: Width, at: ByteAddr, tf: bool, cy: bool, c: Control
             Act::Does(cpu::stored(c), keep(tf, cy), Reach::Writes(w, at)),
         );
     }
-    stop_outside(marked)
+    miss(marked, at, tf, cy, c)
 }
 
 fn load_pc(d: u32, n: u32, tf: bool, cy: bool, c: Control, m: &[u8], mk: &[u8]) -> Act

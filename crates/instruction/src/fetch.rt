@@ -26,10 +26,10 @@ fn read_half(at: ByteAddr, m: &[u8], mk: &[u8]) -> Half
         }
         return Half::Bits(half_at(m, at));
     }
-    Half::Stop(Reply::FetchOutside)
+    Half::Outside
 }
 
-// The first half or its stop; `rest_at` goes on from it.
+// The first half, or why it cannot be read; `rest_at` goes on from it.
 pub fn first_half(at: ByteAddr, m: &[u8], mk: &[u8]) -> Half
     ensures { λ r. ⌜ r ≡ firstHalf at (now (m .entry)) (now (mk .entry)) ⌝ }
 {
@@ -91,6 +91,7 @@ pub fn rest_at(d: Kind, first: u16, at: ByteAddr, m: &[u8], mk: &[u8]) -> Fetche
     let s = second_half(d, word::byte_sum(at, 2), m, mk);
     match s {
         Half::Stop(r) => Fetched::Stop(r),
+        Half::Outside => Fetched::Outside,
         Half::Bits(second) => decoded(isa::operands(d, first, second)),
     }
 }
@@ -102,6 +103,7 @@ pub fn fetch(at: ByteAddr, m: &[u8], mk: &[u8]) -> Fetched
     let h = first_half(at, m, mk);
     match h {
         Half::Stop(r) => Fetched::Stop(r),
+        Half::Outside => Fetched::Outside,
         Half::Bits(first) => rest_at(isa::kind_of((first / 256) as u8), first, at, m, mk),
     }
 }

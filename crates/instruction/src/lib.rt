@@ -18,29 +18,31 @@ pub enum Reply {
     TapeLength,
     TapeByte,
     Budget,
-    FetchOutside,
     FetchMarked,
     NoInstruction,
     MarkedOperand,
-    DataOutside,
 }
 
+// What a fetch finds; outside memory it is a bus error.
 pub enum Fetched {
     Stop(Reply),
+    Outside,
     Run(Instr),
 }
 
 // Half an instruction, or why it cannot be read.
 pub enum Half {
     Stop(Reply),
+    Outside,
     Bits(u16),
 }
 
-// What an instruction reaches beside the registers: memory, or the entry of a swint.
+// What an instruction reaches beside the registers: memory, an address outside it, or the entry of a swint.
 pub enum Reach {
     Nowhere,
     Reads(Width, ByteAddr),
     Writes(Width, ByteAddr),
+    Outside(ByteAddr),
     Raises(u32),
 }
 
@@ -62,10 +64,8 @@ pub fn number(r: Reply) -> u32
         Reply::TapeLength => 5,
         Reply::TapeByte => 6,
         Reply::Budget => 10,
-        Reply::FetchOutside => 11,
         Reply::FetchMarked => 12,
         Reply::NoInstruction => 13,
         Reply::MarkedOperand => 14,
-        Reply::DataOutside => 15,
     }
 }

@@ -1,8 +1,8 @@
 -- The trace is what the steps gave.
 -- Assumes nothing.
 use Prim.Native.Nat.{ℕ, zero, suc, _+_, _%_, _^_, _≤_, _<_}
-use mathlib.Core.Path.{_≡_, refl, ap, _∙_}
-use mathlib.Core.Bool.{Bool, true, false, cond}
+use mathlib.Core.Path.{_≡_, refl, sym, ap, subst, _∙_}
+use mathlib.Core.Bool.{Bool, true, false, cond, _&&_}
 use mathlib.Core.List.{List}
 use native.Mathlib.Omega.{arith}
 use native.Mathlib.Nat.{not-suc-le-zero}
@@ -17,13 +17,14 @@ use Rattle.word.proofs.Memory.{store-kept}
 use Rattle.isa.specs.declared.Instr.{Instr}
 use Rattle.cpu.specs.Control.{pcOf, withPc, withSfr, withPsw, withHwdbg, withPending, tf}
 use Rattle.cpu.specs.Entries.{enter, entered}
-use Rattle.cpu.specs.Exec.{goTo, leave, exec, sourcesOf}
+use Rattle.cpu.specs.Exec.{onward, goTo, leave, exec, sourcesOf}
 use Rattle.cpu.specs.declared.Control.{Control}
 use Rattle.cpu.specs.declared.Entry.{Entry}
 use Rattle.marks.specs.Marks.{taint, blocked}
+use Rattle.marks.specs.declared.Flags.{Flags}
 use Rattle.marks.specs.declared.Taint.{Taint}
 use Rattle.instruction.specs.Fetch.{fetchOf}
-use Rattle.instruction.specs.Act.{Val, outside, loadedMark, actOf}
+use Rattle.instruction.specs.Act.{Val, outside, missing, loadedMark, actOf}
 use Rattle.instruction.specs.declared.Reply.{Reply}
 use Rattle.instruction.specs.declared.Fetched.{Fetched}
 use Rattle.instruction.specs.declared.Reach.{Reach}
@@ -36,9 +37,10 @@ use Rattle.trace.specs.Seen.{seenIn}
 use Rattle.machine.specs.declared.State.{State}
 use Rattle.machine.specs.declared.Event.{Event}
 use Rattle.machine.specs.declared.Judged.{Judged}
+use Rattle.machine.specs.declared.Data.{Data}
 use Rattle.machine.specs.declared.Line.{Line}
 use Rattle.trace.specs.declared.Seen.{Seen}
-use Rattle.laws.specs.Shows.{reachIn, effectIn, Shows, by-choice, by-instruction, Entered, Bits, Returned, backFrom, ChangedAt}
+use Rattle.laws.specs.Shows.{reachIn, effectIn, Shows, by-choice, by-instruction, by-fetch, by-data, Entered, Bits, Returned, backFrom, ChangedAt}
 
 -- ---- one step and its line
 
@@ -57,7 +59,23 @@ stored-at (Reach.Writes w a) v m = λ i h. go (inside m a (bytesOf w)) i h
         let s = small w in
         store-kept (bytesOf w) m (a .0) v i (λ (n : ℕ) (l : n < bytesOf w) (e : i ≡ a .0 + n). h (omega arith) (omega arith))
     go false i h = refl
+stored-at (Reach.Outside a) v m = λ i h. refl
 stored-at (Reach.Raises n) v m = refl
+
+-- a step that meets a bus error of data is its entry, made at the next instruction
+and-true : (b : Bool) → (b && true) ≡ b
+and-true true = refl
+and-true false = refl
+
+pub missing-step : (r : Reach) (f : Flags) (x : Val) (c : Control) (m k : List ℕ) → outside r m ≡ true
+    → actStep (missing r f c) x c m k
+    ≡ completed (entryDone Entry.DataError f (onward 2 c)) m k (record { pc = pcOf c; entry = Entry.DataError; address = dataOf r })
+unfolding entryDone doneOf lineOf onward withPc
+missing-step Reach.Nowhere f x c m k o = let z : _≡_ {A = ℕ} 0 1 = cc in absurd (omega arith)
+missing-step (Reach.Reads w a) f x c m k o = rw (and-true (on (c .psw) 4))
+missing-step (Reach.Writes w a) f x c m k o = rw (and-true (on (c .psw) 4))
+missing-step (Reach.Outside a) f x c m k o = rw (and-true (on (c .psw) 4))
+missing-step (Reach.Raises n) f x c m k o = let z : _≡_ {A = ℕ} 0 1 = cc in absurd (omega arith)
 
 -- what the line of a completed step says: its program counter, its entry, and where memory changed
 module _ (t : ℕ) (s : State) (m k : List ℕ) where
@@ -66,23 +84,36 @@ module _ (t : ℕ) (s : State) (m k : List ℕ) where
   Told (completed d l j x) = (x .pc ≡ pcOf (s .control)) × Shows t s m k d x × ChangedAt (x .address) m l
 
   module _ (i : Instr) (c : chosen t (s .control) ≡ Event.Instruction) (f : fetchOf (pcOf (s .control)) m k ≡ Fetched.Run i) where
-    acted : (b u : Bool) (p q : Reply) (n : Taint)
-        → Told (actStep (cond b (Act.Stop p) (cond u (Act.Stop q) (Act.Does (effectIn i s m) n (reachIn i s)))) (valueAt s (sourcesOf i .first)) (s .control) m k)
+    nothing-stored : (x : Data) → ChangedAt x m m
+    nothing-stored Data.Nowhere = refl
+    nothing-stored (Data.At a) = λ i h. refl
+
+    missed-told : outside (reachIn i s) m ≡ true → Told (actStep (missing (reachIn i s) (s .flags) (s .control)) (valueAt s (sourcesOf i .first)) (s .control) m k)
+    unfolding entryDone onward withPc
+    missed-told o =
+        subst Told (sym (missing-step (reachIn i s) (s .flags) (valueAt s (sourcesOf i .first)) (s .control) m k o))
+        (refl, by-data i c f o refl refl refl, nothing-stored (dataOf (reachIn i s)))
+
+    acted : (b u : Bool) (p : Reply) (n : Taint) → outside (reachIn i s) m ≡ u
+        → Told (actStep (cond b (Act.Stop p) (cond u (missing (reachIn i s) (s .flags) (s .control)) (Act.Does (effectIn i s m) n (reachIn i s)))) (valueAt s (sourcesOf i .first)) (s .control) m k)
     unfolding doneOf lineOf
-    acted true u p q n = tt
-    acted false true p q n = tt
-    acted false false p q n = (refl, by-instruction i c f refl refl, stored-at (reachIn i s) (valueAt s (sourcesOf i .first) .value) m)
+    acted true u p n o = tt
+    acted false true p n o = missed-told o
+    acted false false p n o = (refl, by-instruction i c f o refl refl, stored-at (reachIn i s) (valueAt s (sourcesOf i .first) .value) m)
 
     acts : Told (instrStep i s m k)
     unfolding instrStep actOf
     acts =
         let x : Val = valueAt s (sourcesOf i .first) in
         let y : Val = valueAt s (sourcesOf i .second) in
-        acted (blocked i (y .mark) (s .flags)) (outside (reachIn i s) m) Reply.MarkedOperand Reply.DataOutside
+        acted (blocked i (y .mark) (s .flags)) (outside (reachIn i s) m) Reply.MarkedOperand
         (taint i (x .mark) (y .mark) (loadedMark (reachIn i s) k) (tf (s .control)) (s .flags))
+        refl
 
   fetched : (x : Fetched) → chosen t (s .control) ≡ Event.Instruction → fetchOf (pcOf (s .control)) m k ≡ x → Told (fetchStep x s m k)
+  unfolding entryDone
   fetched (Fetched.Stop r) c f = tt
+  fetched Fetched.Outside c f = (refl, by-fetch c f refl refl refl, refl)
   fetched (Fetched.Run i) c f = acts i c f
 
   happened : (v : Event) → chosen t (s .control) ≡ v → Told (eventStep v s m k)
@@ -162,6 +193,20 @@ entry-bits (Entry.External i) c =
       enters 12 (withPsw c p) c refl refl (ip-kept (c .psw) 26 6 (lslOf 1 i) 1 1 (lit≤ tt) (lit≤ tt)),
       on-of 1 (low-kept p (on p 3) 1 1 (lit≤ tt) ∙ read-back (put (c .psw) 26 6 (lslOf 1 i)) 1 1 1),
       high-kept p (on p 3) 26 6 (lit≤ tt) ∙ kept-above (put (c .psw) 26 6 (lslOf 1 i)) 1 1 1 26 6 (lit≤ tt) ∙ read-back (c .psw) 26 6 (lslOf 1 i),
+    )
+entry-bits Entry.FetchError c =
+    let p : ℕ = put (c .psw) 15 1 1 in (
+      enters 16 (withPsw c p) c refl refl (kept-below (c .psw) 15 1 1 3 1 (lit≤ tt)),
+      on-of 1 (high-kept p (on p 3) 15 1 (lit≤ tt) ∙ read-back (c .psw) 15 1 1),
+      on-of 1 (high-kept p (on p 3) 14 1 (lit≤ tt) ∙ kept-below (c .psw) 15 1 1 14 1 (lit≤ tt)),
+      refl,
+    )
+entry-bits Entry.DataError c =
+    let p : ℕ = put (c .psw) 14 1 1 in (
+      enters 16 (withPsw c p) c refl refl (kept-below (c .psw) 14 1 1 3 1 (lit≤ tt)),
+      on-of 1 (high-kept p (on p 3) 14 1 (lit≤ tt) ∙ read-back (c .psw) 14 1 1),
+      on-of 1 (high-kept p (on p 3) 15 1 (lit≤ tt) ∙ kept-above (c .psw) 14 1 1 15 1 (lit≤ tt)),
+      refl,
     )
 
 -- ---- the return from an entry

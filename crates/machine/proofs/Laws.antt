@@ -27,7 +27,7 @@ use Rattle.marks.specs.Memory.{badMark}
 use Rattle.marks.specs.declared.Flags.{Flags}
 use Rattle.marks.specs.declared.Taint.{Taint}
 use Rattle.instruction.specs.Fetch.{afterHalf}
-use Rattle.instruction.specs.Act.{Val, reachOf, outside, loadedFrom, loadedMark, actOf}
+use Rattle.instruction.specs.Act.{Val, reachOf, outside, missing, loadedFrom, loadedMark, actOf}
 use Rattle.instruction.specs.Parts.{firstHalf, secondHalf, decodedTo, bySecond, restBy, byFirst}
 use Rattle.instruction.specs.declared.Reply.{Reply}
 use Rattle.instruction.specs.declared.Fetched.{Fetched}
@@ -89,19 +89,27 @@ calm t c p e = quiet t c (not-true (c .pending) (and-right (eqb (fieldOf (c .hwd
 abbrev Alike : Reach → Val → Val → List ℕ → List ℕ → Type 0
 Alike r x y m k = (storedTo r (x .value) m ≡ storedTo r (y .value) m) × (markedTo r (x .mark) k ≡ markedTo r (y .mark) k)
 
-unstored : (t u : Bool) (e : Effect) (n : Taint) (r : Reach) (x y : Val) (c : Control) (m k : List ℕ) → Alike r x y m k
-    → actStep (cond t (Act.Stop Reply.MarkedOperand) (cond u (Act.Stop Reply.DataOutside) (Act.Does e n r))) x c m k
-    ≡ actStep (cond t (Act.Stop Reply.MarkedOperand) (cond u (Act.Stop Reply.DataOutside) (Act.Does e n r))) y c m k
-unstored true u e n r x y c m k h = refl
-unstored false true e n r x y c m k h = refl
-unstored false false e n r x y c m k h = ap₂ (λ (a b : List ℕ). completed (doneOf c e n r) a b (lineOf c e r)) (h .0) (h .1)
+-- and a load or store outside memory stores nothing
+unmissed : (r : Reach) (f : Flags) (x y : Val) (c : Control) (m k : List ℕ) → actStep (missing r f c) x c m k ≡ actStep (missing r f c) y c m k
+unmissed Reach.Nowhere f x y c m k = refl
+unmissed (Reach.Reads w a) f x y c m k = refl
+unmissed (Reach.Writes w a) f x y c m k = refl
+unmissed (Reach.Outside a) f x y c m k = refl
+unmissed (Reach.Raises n) f x y c m k = refl
+
+unstored : (t u : Bool) (e : Effect) (n : Taint) (r : Reach) (f : Flags) (x y : Val) (c : Control) (m k : List ℕ) → Alike r x y m k
+    → actStep (cond t (Act.Stop Reply.MarkedOperand) (cond u (missing r f c) (Act.Does e n r))) x c m k
+    ≡ actStep (cond t (Act.Stop Reply.MarkedOperand) (cond u (missing r f c) (Act.Does e n r))) y c m k
+unstored true u e n r f x y c m k h = refl
+unstored false true e n r f x y c m k h = unmissed r f x y c m k
+unstored false false e n r f x y c m k h = ap₂ (λ (a b : List ℕ). completed (doneOf c e n r) a b (lineOf c e r)) (h .0) (h .1)
 
 act-unstored : (i : Instr) (u v x y : Val) (f : Flags) (c : Control) (m k : List ℕ) → Alike (reachOf i (v .value) c) x y m k
     → actStep (actOf i u v f c m k) x c m k ≡ actStep (actOf i u v f c m k) y c m k
 unfolding actOf
 act-unstored i u v x y f c m k h =
     let r : Reach = reachOf i (v .value) c in
-    unstored (blocked i (v .mark) f) (outside r m) (exec i (u .value) (v .value) (loadedFrom r m) c) (taint i (u .mark) (v .mark) (loadedMark r k) (tf c) f) r x y c m k h
+    unstored (blocked i (v .mark) f) (outside r m) (exec i (u .value) (v .value) (loadedFrom r m) c) (taint i (u .mark) (v .mark) (loadedMark r k) (tf c) f) r f x y c m k h
 
 module _ (s : State) (m k : List ℕ) where
   -- The registers that the last two digits of a half h name serve every instruction: where it reads one, its number stands there, and where it reads none,
@@ -152,6 +160,7 @@ module _ (s : State) (m k : List ℕ) where
     where
       go : (x : Half) → Served (bySecond x (kindOf (h / 256)) h) h
       go (Half.Stop r) = refl
+      go Half.Outside = refl
       go (Half.Bits b) = served-by (kindOf (h / 256)) h b
 
   -- what a step is, by its start
@@ -164,8 +173,9 @@ module _ (s : State) (m k : List ℕ) where
   unfolding stepOf begunOf halfStep entryDone
   step-by-parts t = go (chosen t (s .control))
     where
-      half : (x : Half) → StepBy (begunHalf x) (fetchStep (byFirst x (pcOf (s .control)) m k) s m k)
+      half : (x : Half) → StepBy (begunHalf x (s .control)) (fetchStep (byFirst x (pcOf (s .control)) m k) s m k)
       half (Half.Stop r) = refl
+      half Half.Outside = (refl, refl, refl)
       half (Half.Bits h) = served h
 
       go : (v : Event) → StepBy (begunBy v (s .control) m k) (eventStep v s m k)

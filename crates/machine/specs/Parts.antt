@@ -8,12 +8,13 @@ use Rattle.isa.specs.Codes.{kindOf}
 use Rattle.cpu.specs.Control.{pcOf}
 use Rattle.cpu.specs.Entries.{entered, fallen}
 use Rattle.cpu.specs.declared.Control.{Control}
+use Rattle.cpu.specs.declared.Entry.{Entry}
 use Rattle.marks.specs.declared.Flags.{Flags}
 use Rattle.instruction.specs.Act.{Val, actOf}
 use Rattle.instruction.specs.Parts.{firstHalf, restBy}
 use Rattle.instruction.specs.declared.Fetched.{Fetched}
 use Rattle.instruction.specs.declared.Half.{Half}
-use Rattle.machine.specs.Step.{Stepped, stopped, completed, chosen, actStep}
+use Rattle.machine.specs.Step.{Stepped, stopped, completed, chosen, entryStep, actStep}
 use Rattle.machine.specs.declared.State.{State}
 use Rattle.machine.specs.declared.Event.{Event}
 use Rattle.machine.specs.declared.Begun.{Begun}
@@ -38,13 +39,14 @@ marksIn k (completed d l j x) = j
 
 -- ---- a step in two parts: all that no register takes part in, and the instruction by its first half
 
-abbrev pub begunHalf : Half → Begun
-begunHalf (Half.Stop r) = Begun.Stop r
-begunHalf (Half.Bits h) = Begun.Half h
+abbrev pub begunHalf : Half → Control → Begun
+begunHalf (Half.Stop r) c = Begun.Stop r
+begunHalf Half.Outside c = Begun.Enter (fallen (on (c .psw) 4) (entered Entry.FetchError c))
+begunHalf (Half.Bits h) c = Begun.Half h
 
 abbrev pub begunBy : Event → Control → List ℕ → List ℕ → Begun
 begunBy (Event.Enter e) c m k = Begun.Enter (fallen (on (c .psw) 4) (entered e c))
-begunBy Event.Instruction c m k = begunHalf (firstHalf (pcOf c) m k)
+begunBy Event.Instruction c m k = begunHalf (firstHalf (pcOf c) m k) c
 
 unfoldable pub begunOf : ℕ → Control → List ℕ → List ℕ → Begun
 begunOf t c m k = begunBy (chosen t c) c m k
@@ -52,6 +54,7 @@ begunOf t c m k = begunBy (chosen t c) c m k
 -- h is the first half, x and y are the registers whose numbers stand in its bits 7:4 and 3:0
 abbrev pub runHalf : Fetched → Val → Val → Flags → Control → List ℕ → List ℕ → Stepped
 runHalf (Fetched.Stop r) x y f c m k = stopped r
+runHalf Fetched.Outside x y f c m k = entryStep Entry.FetchError f c m k
 runHalf (Fetched.Run i) x y f c m k = actStep (actOf i x y f c m k) x c m k
 
 unfoldable pub halfStep : ℕ → Val → Val → Flags → Control → List ℕ → List ℕ → Stepped

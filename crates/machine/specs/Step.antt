@@ -15,6 +15,7 @@ use Rattle.cpu.specs.declared.Effect.{Effect}
 use Rattle.cpu.specs.declared.Entry.{Entry}
 use Rattle.isa.specs.declared.Instr.{Instr}
 use Rattle.marks.specs.Memory.{markAll}
+use Rattle.marks.specs.declared.Flags.{Flags}
 use Rattle.marks.specs.declared.Taint.{Taint}
 use Rattle.instruction.specs.Fetch.{fetchOf}
 use Rattle.instruction.specs.Act.{Val, actOf}
@@ -56,20 +57,23 @@ abbrev pub storedTo : Reach → ℕ → List ℕ → List ℕ
 storedTo Reach.Nowhere v m = m
 storedTo (Reach.Reads w a) v m = m
 storedTo (Reach.Writes w a) v m = storeOf w m a v
+storedTo (Reach.Outside a) v m = m
 storedTo (Reach.Raises n) v m = m
 
 abbrev pub markedTo : Reach → Bool → List ℕ → List ℕ
 markedTo Reach.Nowhere b k = k
 markedTo (Reach.Reads w a) b k = k
 markedTo (Reach.Writes w a) b k = markAll w k a b
+markedTo (Reach.Outside a) b k = k
 markedTo (Reach.Raises n) b k = k
 
--- The entry that an instruction makes, with c the control part after it: a swint's own, or "If it is a load or store (ldrpc too) and an enabled WP0 or
--- WP1 .. equals the address after alignment: debug entry, after it, in the same step"
+-- The entry that an instruction makes, with c the control part after it: a swint's own, a bus error's (document 02, ticket 5), or "If it is a load or
+-- store (ldrpc too) and an enabled WP0 or WP1 .. equals the address after alignment: debug entry, after it, in the same step"
 abbrev pub entryBy : Reach → Control → Entry
 entryBy Reach.Nowhere c = Entry.Nothing
 entryBy (Reach.Reads w a) c = watchEntry a c
 entryBy (Reach.Writes w a) c = watchEntry a c
+entryBy (Reach.Outside a) c = Entry.DataError
 entryBy (Reach.Raises n) c = Entry.Swint n
 
 -- the address that its line shows
@@ -77,6 +81,7 @@ abbrev pub dataOf : Reach → Data
 dataOf Reach.Nowhere = Data.Nowhere
 dataOf (Reach.Reads w a) = Data.At a
 dataOf (Reach.Writes w a) = Data.At a
+dataOf (Reach.Outside a) = Data.At a
 dataOf (Reach.Raises n) = Data.Nowhere
 
 -- ---- a step stops, or is completed: with what it makes of the registers and the control part, of memory and of its marks, and with the line that it shows
@@ -86,18 +91,18 @@ pub data Stepped : Type 0 where
   completed : Done → List ℕ → List ℕ → Line → Stepped
 
 -- an entry, and the timer's fall; it changes no register
-unfoldable pub entryDone : Entry → State → Done
-entryDone e s =
+unfoldable pub entryDone : Entry → Flags → Control → Done
+entryDone e f c =
     record {
-      control = fallen (on (s .control .psw) 4) (entered e (s .control));
-      flags = s .flags;
+      control = fallen (on (c .psw) 4) (entered e c);
+      flags = f;
       reg = noReg;
       value = 0;
       mark = false;
     }
 
-abbrev pub entryStep : Entry → State → List ℕ → List ℕ → Stepped
-entryStep e s m k = completed (entryDone e s) m k (record { pc = pcOf (s .control); entry = e; address = Data.Nowhere })
+abbrev pub entryStep : Entry → Flags → Control → List ℕ → List ℕ → Stepped
+entryStep e f c m k = completed (entryDone e f c) m k (record { pc = pcOf c; entry = e; address = Data.Nowhere })
 
 -- an instruction from control part c on: the entry that it makes, and the timer's fall by TE at the step's start
 unfoldable pub doneOf : Control → Effect → Taint → Reach → Done
@@ -129,12 +134,14 @@ instrStep i s m k =
     m
     k
 
+-- a fetch outside memory: "IPC is the instruction's own address" (document 02, ticket 5)
 abbrev pub fetchStep : Fetched → State → List ℕ → List ℕ → Stepped
 fetchStep (Fetched.Stop r) s m k = stopped r
+fetchStep Fetched.Outside s m k = entryStep Entry.FetchError (s .flags) (s .control) m k
 fetchStep (Fetched.Run i) s m k = instrStep i s m k
 
 abbrev pub eventStep : Event → State → List ℕ → List ℕ → Stepped
-eventStep (Event.Enter e) s m k = entryStep e s m k
+eventStep (Event.Enter e) s m k = entryStep e (s .flags) (s .control) m k
 eventStep Event.Instruction s m k = fetchStep (fetchOf (pcOf (s .control)) m k) s m k
 
 unfoldable pub stepOf : ℕ → State → List ℕ → List ℕ → Stepped

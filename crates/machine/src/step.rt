@@ -3,10 +3,10 @@ ghost use mathlib.Core.Path.{_≡_};
 ghost use Prim.Native.Nat.{ℕ};
 ghost use Rattle.word.specs.Bits.{on};
 ghost use Rattle.cpu.specs.Entries.{entered, fallen};
+ghost use Rattle.cpu.specs.declared.Entry.{Entry};
 ghost use Rattle.instruction.specs.Parts.{val, flags};
-ghost use Rattle.machine.specs.Step.{storedTo, markedTo, entryBy, doneOf, actStep};
+ghost use Rattle.machine.specs.Step.{storedTo, markedTo, entryBy, entryDone, doneOf, actStep};
 ghost use Rattle.machine.specs.Parts.{outIn, memIn, marksIn, begunOf, halfStep};
-ghost use Rattle.machine.specs.declared.Begun.{Begun};
 use crate::Begun;
 use crate::Done;
 use crate::Event;
@@ -23,10 +23,11 @@ use marks::Flags;
 use marks::Taint;
 use word::ByteAddr;
 
-fn enter(e: Entry, c: Control) -> Begun
-    ensures { λ r. ⌜ r ≡ Begun.Enter (fallen (on (c .psw) 4) (entered e c)) ⌝ }
+// The control part after a step that is an entry.
+fn enter(e: Entry, c: Control) -> Control
+    ensures { λ r. ⌜ r ≡ fallen (on (c .psw) 4) (entered e c) ⌝ }
 {
-    Begun::Enter(cpu::fall(word::is_on(c.psw, 4), cpu::enter(e, c)))
+    cpu::fall(word::is_on(c.psw, 4), cpu::enter(e, c))
 }
 
 // All of a step that no register takes part in.
@@ -35,11 +36,12 @@ pub fn begin(t: u32, c: Control, m: &[u8], mk: &[u8]) -> Begun
 {
     let e = choose(t, c);
     match e {
-        Event::Enter(x) => enter(x, c),
+        Event::Enter(x) => Begun::Enter(enter(x, c)),
         Event::Instruction => {
             let f = instruction::fetch::first_half(ByteAddr(c.pc), m, mk);
             match f {
                 Half::Stop(r) => Begun::Stop(r),
+                Half::Outside => Begun::Enter(enter(Entry::FetchError, c)),
                 Half::Bits(h) => Begun::Half(h),
             }
         }
@@ -53,6 +55,7 @@ pub fn entry_of(r: Reach, c: Control) -> Entry
         Reach::Nowhere => Entry::Nothing,
         Reach::Reads(_, a) => cpu::watch(a, c),
         Reach::Writes(_, a) => cpu::watch(a, c),
+        Reach::Outside(_) => Entry::DataError,
         Reach::Raises(n) => Entry::Swint(n),
     }
 }
@@ -65,6 +68,7 @@ fn enter_by(r: Reach, c: Control) -> Control
         Reach::Nowhere => c,
         Reach::Reads(_, a) => cpu::enter(cpu::watch(a, c), c),
         Reach::Writes(_, a) => cpu::enter(cpu::watch(a, c), c),
+        Reach::Outside(_) => cpu::enter(Entry::DataError, c),
         Reach::Raises(n) => cpu::enter(Entry::Swint(n), c),
     }
 }
@@ -97,6 +101,7 @@ fn write_at(r: Reach, u: u32, mu: bool, m: &mut [u8], mk: &mut [u8])
             word::store(w, m, a, u);
             marks::set_marks(w, mk, a, mu);
         }
+        Reach::Outside(_) => {}
         Reach::Raises(_) => {}
     }
 }
@@ -112,6 +117,19 @@ fn act_step(a: Act, u: u32, mu: bool, c: Control, m: &mut [u8], mk: &mut [u8]) -
             write_at(r, u, mu, m, mk);
             Out::Go(finish(c, e, t, r))
         }
+    }
+}
+
+// A bus error of the second half's fetch.
+fn fetch_error(tf: bool, cy: bool, c: Control) -> Done
+    ensures { λ d. ⌜ d ≡ entryDone Entry.FetchError (flags tf cy) c ⌝ }
+{
+    Done {
+        control: enter(Entry::FetchError, c),
+        flags: Flags { tf, cy },
+        reg: cpu::NO_REG,
+        value: 0,
+        mark: false,
     }
 }
 
@@ -136,6 +154,7 @@ pub fn half_step(
     let f = instruction::fetch::rest_at(kind, first, ByteAddr(c.pc), m, mk);
     match f {
         Fetched::Stop(reply) => Out::Stop(reply),
+        Fetched::Outside => Out::Go(fetch_error(tf, cy, c)),
         Fetched::Run(i) => {
             let a = instruction::classes::act_on(i, u, mu, v, mv, tf, cy, c, m, mk);
             act_step(a, u, mu, c, m, mk)

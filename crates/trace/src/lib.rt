@@ -6,8 +6,11 @@ ghost use Rattle.cpu.specs.Control.{pcOf};
 ghost use Rattle.instruction.specs.Fetch.{fetchOf};
 ghost use Rattle.instruction.specs.Parts.{val};
 ghost use Rattle.machine.specs.Step.{dataOf, actStep, instrStep, fetchStep, stepOf};
+ghost use Rattle.machine.specs.declared.Data.{Data};
 ghost use Rattle.trace.specs.Seen.{seenIn};
+ghost use Rattle.trace.specs.declared.Seen.{Seen};
 use cpu::Control;
+use cpu::Entry;
 use instruction::Act;
 use instruction::Fetched;
 use instruction::Reach;
@@ -51,6 +54,7 @@ fn data_of(r: Reach) -> Data
         Reach::Nowhere => Data::Nowhere,
         Reach::Reads(_, a) => Data::At(a),
         Reach::Writes(_, a) => Data::At(a),
+        Reach::Outside(a) => Data::At(a),
         Reach::Raises(_) => Data::Nowhere,
     }
 }
@@ -86,12 +90,24 @@ fn show_instr(i: Instr, s: State, m: &[u8], mk: &[u8]) -> Seen
     show_act(a, u, mu, c, m, mk)
 }
 
+// An entry's line: it reaches no data.
+fn entry_line(entry: Entry, c: Control) -> Seen
+    ensures { λ r. ⌜ r ≡ Seen.Step (record { pc = pcOf c; entry = entry; address = Data.Nowhere }) ⌝ }
+{
+    Seen::Step(Line {
+        pc: ByteAddr(c.pc),
+        entry,
+        address: Data::Nowhere,
+    })
+}
+
 fn show_fetch(s: State, m: &[u8], mk: &[u8]) -> Seen
     ensures { λ r. ⌜ r ≡ seenIn (fetchStep (fetchOf (pcOf (s .control)) (now (m .entry)) (now (mk .entry))) s (now (m .entry)) (now (mk .entry))) ⌝ }
 {
     let f = instruction::fetch::fetch(ByteAddr(s.control.pc), m, mk);
     match f {
         Fetched::Stop(_) => Seen::Nothing,
+        Fetched::Outside => entry_line(Entry::FetchError, s.control),
         Fetched::Run(i) => show_instr(i, s, m, mk),
     }
 }
@@ -102,11 +118,7 @@ pub fn show(t: u32, s: State, m: &[u8], mk: &[u8]) -> Seen
     let c = s.control;
     let e = machine::choose(t, c);
     match e {
-        Event::Enter(entry) => Seen::Step(Line {
-            pc: ByteAddr(c.pc),
-            entry,
-            address: Data::Nowhere,
-        }),
+        Event::Enter(entry) => entry_line(entry, c),
         Event::Instruction => show_fetch(s, m, mk),
     }
 }

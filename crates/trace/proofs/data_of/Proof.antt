@@ -11,6 +11,9 @@ enum-known-r c = search needs
 enum-known-r-2 : tie.Need-enum-known-r-2
 enum-known-r-2 c = search needs
 
+enum-known-r-3 : tie.Need-enum-known-r-3
+enum-known-r-3 c = search needs
+
 enum-told-2 : tie.Need-enum-told-2
 enum-told-2 c = search needs
 
@@ -24,7 +27,10 @@ returns-3 : tie.Need-returns-3
 returns-3 c = rw (c .before .r2 .given .1)
 
 returns-4 : tie.Need-returns-4
-returns-4 c = search needs
+returns-4 c = rw (c .before .r3 .given .1)
+
+returns-5 : tie.Need-returns-5
+returns-5 c = search needs
 
 pub data-of-spec : {M : Type 1} → statement M
 data-of-spec =
@@ -33,8 +39,10 @@ data-of-spec =
     enum-told
     enum-known-r
     enum-known-r-2
+    enum-known-r-3
     enum-told-2
     returns
     returns-2
     returns-3
-    returns-4)
+    returns-4
+    returns-5)

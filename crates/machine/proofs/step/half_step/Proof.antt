@@ -16,6 +16,12 @@ rest-at-requires c κs = search needs
 enum-known-f : tie.Need-enum-known-f
 enum-known-f c = search needs
 
+enum-told : tie.Need-enum-told
+enum-told c = search needs
+
+fetch-error-requires : tie.Need-fetch-error-requires
+fetch-error-requires c κs = search needs
+
 enum-known-f-2 : tie.Need-enum-known-f-2
 enum-known-f-2 c = search needs
 
@@ -43,7 +49,17 @@ same-length-4 c = search needs
 
 returns-2 : tie.Need-returns-2
 unfolding halfStep
-returns-2 c =
+returns-2 c = rw (c .fetch-error .ensures, ← (c .before .before .before .before .before .before .kind-of .ensures), ← (c .before .before .before .rest-at .ensures), c .before .enum-told .given .1) (refl, (refl, refl))
+
+same-length-5 : tie.Need-same-length-5
+same-length-5 c = search needs
+
+same-length-6 : tie.Need-same-length-6
+same-length-6 c = search needs
+
+returns-3 : tie.Need-returns-3
+unfolding halfStep
+returns-3 c =
     rw (← (c .before .before .before .before .before .before .before .before .before .before .before .before .before .before .before .before .kind-of .ensures), ← (c .before .before .before .before .before .before .before .before .before .before .before .before .before .rest-at .ensures), c .before .before .before .before .before .before .before .before .before .before .before .f2 .given .1)
     (rw (c .before .before .before .before .before .before .before .act-on .ensures) at (c .before .before .before .before .act-step .ensures))
 
@@ -55,6 +71,8 @@ half-step-spec =
     kind-of-requires
     rest-at-requires
     enum-known-f
+    enum-told
+    fetch-error-requires
     enum-known-f-2
     act-on-requires
     act-step-requires
@@ -63,4 +81,7 @@ half-step-spec =
     returns
     same-length-3
     same-length-4
-    returns-2)
+    returns-2
+    same-length-5
+    same-length-6
+    returns-3)
