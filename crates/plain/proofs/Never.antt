@@ -36,6 +36,7 @@ byMarks r = eqb (numberOf r) 12 || eqb (numberOf r) 14
 -- the same of a fetch, of a step, and of what the refusals leave; false where none stops
 abbrev inFetched : Fetched → Bool
 inFetched (Fetched.Stop r) = byMarks r
+inFetched Fetched.Outside = false
 inFetched (Fetched.Run i) = false
 
 abbrev inOutcome : Outcome → Bool
@@ -51,7 +52,7 @@ either f true x y p q = p
 either f false x y p q = q
 
 reached-fine : (a : ByteAddr) (m : List ℕ) (x : Fetched) → inFetched x ≡ false → inFetched (reached a m x) ≡ false
-reached-fine a m x e = either inFetched (not (inside m a 2)) (Fetched.Stop Reply.FetchOutside) x refl e
+reached-fine a m x e = either inFetched (not (inside m a 2)) Fetched.Outside x refl e
 
 decoded-fine : (d : Decoded) (b : ByteAddr) (m : List ℕ) → inFetched (decoded d b m) ≡ false
 decoded-fine (Decoded.Short i) b m = refl
@@ -71,6 +72,7 @@ act-fine i x y r s m = either inOutcome (outside r m) _ _ refl refl
 fetched-fine : (x : Fetched) (s : Core) (m : List ℕ) → inFetched x ≡ false → inOutcome (onFetched x s m) ≡ false
 unfolding perform
 fetched-fine (Fetched.Stop r) s m e = e
+fetched-fine Fetched.Outside s m e = refl
 fetched-fine (Fetched.Run i) s m e =
     let y : ℕ = valueOf s (sourcesOf i .second) in
     act-fine i (valueOf s (sourcesOf i .first)) y (reachOf i y (s .control)) s m

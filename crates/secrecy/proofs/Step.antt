@@ -20,12 +20,12 @@ use Rattle.cpu.specs.Exec.{exec, sourcesOf}
 use Rattle.cpu.specs.declared.Control.{Control}
 use Rattle.cpu.specs.declared.Effect.{Effect}
 use Rattle.cpu.specs.declared.Entry.{Entry}
-use Rattle.marks.specs.Marks.{taint, blocked}
+use Rattle.marks.specs.Marks.{with, taint, blocked}
 use Rattle.marks.specs.Memory.{markedAt}
 use Rattle.marks.specs.declared.Flags.{Flags}
 use Rattle.marks.specs.declared.Taint.{Taint}
 use Rattle.instruction.specs.Fetch.{halfAt, afterHalf, fetchOf}
-use Rattle.instruction.specs.Act.{reachOf, outside, loadedFrom, loadedMark, actOf}
+use Rattle.instruction.specs.Act.{reachOf, outside, missed, missing, loadedFrom, loadedMark, actOf}
 use Rattle.instruction.specs.Parts.{halfOf, firstHalf, secondHalf, isLongKind, bySecond, restBy, byFirst}
 use Rattle.instruction.specs.declared.Reply.{Reply}
 use Rattle.instruction.specs.declared.Fetched.{Fetched}
@@ -34,15 +34,15 @@ use Rattle.instruction.specs.declared.Reach.{Reach}
 use Rattle.instruction.specs.declared.Act.{Act}
 use Rattle.instruction.proofs.Laws.{fetch-by-parts}
 use Rattle.machine.specs.State.{valueAt}
-use Rattle.machine.specs.Step.{Stepped, stopped, completed, lowest, chosen, storedTo, markedTo, entryBy, dataOf, entryDone, doneOf, lineOf, actStep, instrStep, fetchStep, eventStep, stepOf}
+use Rattle.machine.specs.Step.{Stepped, stopped, completed, lowest, chosen, storedTo, markedTo, entryBy, dataOf, entryDone, entryStep, doneOf, lineOf, actStep, instrStep, fetchStep, eventStep, stepOf}
 use Rattle.machine.specs.declared.State.{State}
 use Rattle.machine.specs.declared.Event.{Event}
 use Rattle.machine.specs.declared.Done.{Done}
 use Rattle.machine.specs.declared.Line.{Line}
 use Rattle.secrecy.specs.Same.{SamePsw, SameControl, SameList, SameMem}
 use Rattle.secrecy.proofs.Psw.{bit-under, bit-over}
-use Rattle.secrecy.proofs.Control.{pc-same, falls, entries, breaks, watches}
-use Rattle.secrecy.proofs.Exec.{SameEffect, exec-same, taint-same, reach-same}
+use Rattle.secrecy.proofs.Control.{pc-same, onwards, falls, entries, breaks, watches}
+use Rattle.secrecy.proofs.Exec.{SameEffect, moves-same, exec-same, taint-same, reach-same}
 use Rattle.secrecy.proofs.Memory.{loaded, stored, stored-each}
 
 -- ---- the relations
@@ -102,7 +102,7 @@ module _ {k m n : List ℕ} (s : SameMem k m n) (each : length m ≡ length k) w
   half-same : (a : ByteAddr) → halfOf a m k ≡ halfOf a n k
   unfolding halfOf halfAt
   half-same a =
-      ap₂ (λ (l : ℕ) (x : Half). cond (not (leb (a .0 + 2) l)) (Half.Stop Reply.FetchOutside) x) (s .long)
+      ap₂ (λ (l : ℕ) (x : Half). cond (not (leb (a .0 + 2) l)) Half.Outside x) (s .long)
       (unless (markedAt Width.Half k a) (Half.Stop Reply.FetchMarked) _ _ (λ e. ap Half.Bits (loaded s each Width.Half a e)))
 
   rest-same : (d : Kind) (h : ℕ) (a : ByteAddr) → restBy d h a m k ≡ restBy d h a n k
@@ -111,6 +111,7 @@ module _ {k m n : List ℕ} (s : SameMem k m n) (each : length m ≡ length k) w
 
   by-first : (x : Half) (a : ByteAddr) → byFirst x a m k ≡ byFirst x a n k
   by-first (Half.Stop r) a = refl
+  by-first Half.Outside a = refl
   by-first (Half.Bits h) a = rest-same (kindOf (h / 256)) h a
 
   pub fetch-same : (a : ByteAddr) → fetchOf a m k ≡ fetchOf a n k
@@ -128,24 +129,28 @@ module _ {k m n : List ℕ} (s : SameMem k m n) (each : length m ≡ length k) w
   outside-same Reach.Nowhere = refl
   outside-same (Reach.Reads w a) = ap (λ (l : ℕ). not (leb (a .0 + bytesOf w) l)) (s .long)
   outside-same (Reach.Writes w a) = ap (λ (l : ℕ). not (leb (a .0 + bytesOf w) l)) (s .long)
+  outside-same (Reach.Outside a) = refl
   outside-same (Reach.Raises n) = refl
 
   loaded-same : (r : Reach) → loadedMark r k ≡ false → loadedFrom r m ≡ loadedFrom r n
   loaded-same Reach.Nowhere h = refl
   loaded-same (Reach.Reads w a) h = loaded s each w a h
   loaded-same (Reach.Writes w a) h = refl
+  loaded-same (Reach.Outside a) h = refl
   loaded-same (Reach.Raises n) h = refl
 
   stored-same : (r : Reach) (b : Bool) (v x : ℕ) → (b ≡ false → v ≡ x) → SameMem (markedTo r b k) (storedTo r v m) (storedTo r x n)
   stored-same Reach.Nowhere b v x f = s
   stored-same (Reach.Reads w a) b v x f = s
   stored-same (Reach.Writes w a) b v x f = stored s each w a b v x f
+  stored-same (Reach.Outside a) b v x f = s
   stored-same (Reach.Raises n) b v x f = s
 
   each-same : (r : Reach) (b : Bool) (v : ℕ) → length (storedTo r v m) ≡ length (markedTo r b k)
   each-same Reach.Nowhere b v = each
   each-same (Reach.Reads w a) b v = each
   each-same (Reach.Writes w a) b v = stored-each w k m a b v each
+  each-same (Reach.Outside a) b v = each
   each-same (Reach.Raises n) b v = each
 
 -- ---- an instruction
@@ -154,6 +159,7 @@ entry-same : {f : Flags} {a b : Control} (r : Reach) → SameControl f a b → e
 entry-same Reach.Nowhere s = refl
 entry-same (Reach.Reads w a) s = watches s a
 entry-same (Reach.Writes w a) s = watches s a
+entry-same (Reach.Outside a) s = refl
 entry-same (Reach.Raises n) s = refl
 
 entered-same : {f : Flags} {a b : Control} (r : Reach) → SameControl f a b → SameControl f (entered (entryBy r a) a) (entered (entryBy r b) b)
@@ -178,11 +184,11 @@ does-by : {e g : Effect} {t u : Taint} (r : Reach) → t ≡ u → SameEffect t 
 does-by {e} {g} {t} r p s = subst (λ (v : Taint). SameAct (Act.Does e t r) (Act.Does g v r)) p (does t r s)
 
 -- a test that answers the same in both runs
-choose : {a b : Act} (t u : Bool) (r : Reply) → t ≡ u → (t ≡ false → SameAct a b) → SameAct (cond t (Act.Stop r) a) (cond u (Act.Stop r) b)
-choose true true r e s = halts r
-choose false false r e s = s refl
-choose true false r e s = let z : _≡_ {A = ℕ} 0 1 = cc in absurd (omega arith)
-choose false true r e s = let z : _≡_ {A = ℕ} 0 1 = cc in absurd (omega arith)
+choose : {a b c d : Act} (t u : Bool) → t ≡ u → SameAct a b → (t ≡ false → SameAct c d) → SameAct (cond t a c) (cond u b d)
+choose true true e p s = p
+choose false false e p s = s refl
+choose true false e p s = let z : _≡_ {A = ℕ} 0 1 = cc in absurd (omega arith)
+choose false true e p s = let z : _≡_ {A = ℕ} 0 1 = cc in absurd (omega arith)
 
 module _ {km : List Bool} {ra rb : List ℕ} (regs : SameList false km ra rb) {f : Flags} {a b : Control} (s : SameControl f a b) {k m n : List ℕ} (mem : SameMem k m n)
     (each : length m ≡ length k) where
@@ -196,7 +202,7 @@ module _ {km : List Bool} {ra rb : List ℕ} (regs : SameList false km ra rb) {f
   act-same : (i : Instr) (x y : ℕ) → SameAct (actOf i (valueAt one x) (valueAt one y) f a m k) (actOf i (valueAt other x) (valueAt other y) f b n k)
   unfolding actOf
   act-same i x y =
-      choose (blocked i my f) (blocked i my f) Reply.MarkedOperand refl (λ h.
+      choose (blocked i my f) (blocked i my f) refl (halts Reply.MarkedOperand) (λ h.
       subst (λ (r : Reach). SameAct (first (reachOf i (getD ra y 0) a)) (second r)) (reach-same i my (getD ra y 0) (getD rb y 0) (regs .equal y) s h)
       (at-reach h (reachOf i (getD ra y 0) a)))
     where
@@ -208,17 +214,17 @@ module _ {km : List Bool} {ra rb : List ℕ} (regs : SameList false km ra rb) {f
 
       first : Reach → Act
       first r =
-          cond (outside r m) (Act.Stop Reply.DataOutside)
+          cond (outside r m) (missing r f a)
           (Act.Does (exec i (getD ra x 0) (getD ra y 0) (loadedFrom r m) a) (taint i mx my (loadedMark r k) (tf a) f) r)
 
       second : Reach → Act
       second r =
-          cond (outside r n) (Act.Stop Reply.DataOutside)
+          cond (outside r n) (missing r f b)
           (Act.Does (exec i (getD rb x 0) (getD rb y 0) (loadedFrom r n) b) (taint i mx my (loadedMark r k) (tf b) f) r)
 
       at-reach : blocked i my f ≡ false → (r : Reach) → SameAct (first r) (second r)
       at-reach h r =
-          choose (outside r m) (outside r n) Reply.DataOutside (outside-same mem each r) (λ _.
+          choose (outside r m) (outside r n) (outside-same mem each r) (does (with false f) (missed r) (moves-same (onwards s 2))) (λ _.
           does-by r (taint-same i mx my (loadedMark r k) s)
           (exec-same i mx my (loadedMark r k) _ _ _ _ _ _ (regs .equal x) (regs .equal y) (loaded-same mem each r) s h))
 
@@ -231,17 +237,21 @@ module _ {km : List Bool} {ra rb : List ℕ} (regs : SameList false km ra rb) {f
       (line-same s r e g (q .control))
       (goes (lineOf a e r) (done-same s t r q) (stored-same mem each r _ _ _ (regs .equal x)) (each-same mem each r _ _))
 
+  entered-alike : (e : Entry) → SameStep (entryStep e f a m k) (entryStep e f b n k)
+  unfolding entryDone
+  entered-alike e =
+      subst (λ (p : ℕ). SameStep (entryStep e f a m k) (completed (entryDone e f b) n k (record { pc = record { 0 = p }; entry = e; address = dataOf Reach.Nowhere })))
+      (pc-same s)
+      (goes _ (record { control = falls (entries s e) _ _ (bit-under (s .psw) 4 (lit≤ tt)); flags = refl; reg = refl; mark = refl; value = λ h. refl }) mem each)
+
   fetched : (x : Fetched) → SameStep (fetchStep x one m k) (fetchStep x other n k)
   unfolding instrStep
   fetched (Fetched.Stop r) = stops r
+  fetched Fetched.Outside = entered-alike Entry.FetchError
   fetched (Fetched.Run i) = acted (act-same i (sourcesOf i .first) (sourcesOf i .second)) (sourcesOf i .first)
 
   happened : (v : Event) → SameStep (eventStep v one m k) (eventStep v other n k)
-  unfolding entryDone
-  happened (Event.Enter e) =
-      subst (λ (p : ℕ). SameStep (eventStep (Event.Enter e) one m k) (completed (entryDone e other) n k (record { pc = record { 0 = p }; entry = e; address = dataOf Reach.Nowhere })))
-      (pc-same s)
-      (goes _ (record { control = falls (entries s e) _ _ (bit-under (s .psw) 4 (lit≤ tt)); flags = refl; reg = refl; mark = refl; value = λ h. refl }) mem each)
+  happened (Event.Enter e) = entered-alike e
   happened Event.Instruction =
       subst (λ (x : Fetched). SameStep (fetchStep (fetchOf (pcOf a) m k) one m k) (fetchStep x other n k))
       (ap (λ (p : ℕ). fetchOf (record { 0 = p }) m k) (pc-same s) ∙ fetch-same mem each (pcOf b))

@@ -20,6 +20,7 @@ marked-true : (r : Reach) (b : Bool) (k : List ℕ) → markedWith trueRules r b
 marked-true Reach.Nowhere b k = refl
 marked-true (Reach.Reads w a) b k = refl
 marked-true (Reach.Writes w a) b k = refl
+marked-true (Reach.Outside a) b k = refl
 marked-true (Reach.Raises n) b k = refl
 
 act-true : (a : Act) (x : Val) (c : Control) (m k : List ℕ) → actStepWith trueRules a x c m k ≡ actStep a x c m k
@@ -29,6 +30,7 @@ act-true (Act.Does e t r) x c m k = rw marked-true
 fetch-true : (f : Fetched) (s : State) (m k : List ℕ) → fetchStepWith trueRules f s m k ≡ fetchStep f s m k
 unfolding instrStepWith instrStep actWith actOf
 fetch-true (Fetched.Stop r) s m k = refl
+fetch-true Fetched.Outside s m k = refl
 fetch-true (Fetched.Run i) s m k = rw act-true
 
 event-true : (v : Event) (s : State) (m k : List ℕ) → eventStepWith trueRules v s m k ≡ eventStep v s m k

@@ -14,12 +14,13 @@ use Rattle.isa.specs.declared.Encoded.{Encoded}
 use Rattle.cpu.specs.Control.{pcOf, tf}
 use Rattle.cpu.specs.Exec.{exec, sourcesOf}
 use Rattle.cpu.specs.declared.Control.{Control}
+use Rattle.cpu.specs.declared.Entry.{Entry}
 use Rattle.marks.specs.Marks.{taint, blocked, with}
 use Rattle.marks.specs.Memory.{markAll}
 use Rattle.marks.specs.declared.Flags.{Flags}
 use Rattle.marks.specs.declared.Taint.{Taint}
 use Rattle.instruction.specs.Fetch.{fetchOf}
-use Rattle.instruction.specs.Act.{Val, reachOf, outside, loadedFrom, loadedMark}
+use Rattle.instruction.specs.Act.{Val, reachOf, outside, missing, loadedFrom, loadedMark}
 use Rattle.instruction.specs.declared.Reply.{Reply}
 use Rattle.instruction.specs.declared.Fetched.{Fetched}
 use Rattle.instruction.specs.declared.Reach.{Reach}
@@ -49,7 +50,7 @@ unmarked = record { tf = false; cy = false }
 unfoldable pub actWith : Rules → Instr → Val → Val → Flags → Control → List ℕ → List ℕ → Act
 actWith q i x y f c m k =
     cond (q .blocked i (y .mark) f) (Act.Stop Reply.MarkedOperand)
-    (cond (outside (reachOf i (y .value) c) m) (Act.Stop Reply.DataOutside)
+    (cond (outside (reachOf i (y .value) c) m) (missing (reachOf i (y .value) c) f c)
     (Act.Does (exec i (x .value) (y .value) (loadedFrom (reachOf i (y .value) c) m) c)
     (q .taint i (x .mark) (y .mark) (loadedMark (reachOf i (y .value) c) k) (tf c) f)
     (reachOf i (y .value) c)))
@@ -58,6 +59,7 @@ abbrev pub markedWith : Rules → Reach → Bool → List ℕ → List ℕ
 markedWith q Reach.Nowhere b k = k
 markedWith q (Reach.Reads w a) b k = k
 markedWith q (Reach.Writes w a) b k = q .stored w k a b
+markedWith q (Reach.Outside a) b k = k
 markedWith q (Reach.Raises n) b k = k
 
 abbrev pub actStepWith : Rules → Act → Val → Control → List ℕ → List ℕ → Stepped
@@ -75,10 +77,11 @@ instrStepWith q i s m k =
 
 abbrev pub fetchStepWith : Rules → Fetched → State → List ℕ → List ℕ → Stepped
 fetchStepWith q (Fetched.Stop r) s m k = stopped r
+fetchStepWith q Fetched.Outside s m k = entryStep Entry.FetchError (s .flags) (s .control) m k
 fetchStepWith q (Fetched.Run i) s m k = instrStepWith q i s m k
 
 abbrev pub eventStepWith : Rules → Event → State → List ℕ → List ℕ → Stepped
-eventStepWith q (Event.Enter e) s m k = entryStep e s m k
+eventStepWith q (Event.Enter e) s m k = entryStep e (s .flags) (s .control) m k
 eventStepWith q Event.Instruction s m k = fetchStepWith q (fetchOf (pcOf (s .control)) m k) s m k
 
 unfoldable pub stepWith : Rules → ℕ → State → List ℕ → List ℕ → Stepped
