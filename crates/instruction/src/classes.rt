@@ -55,10 +55,8 @@ fn keep(tf: bool, cy: bool) -> Taint
 fn miss(marked: bool, at: ByteAddr, tf: bool, cy: bool, c: Control) -> Act
     ensures { λ r. ⌜ r ≡ cond marked (Act.Stop Reply.MarkedOperand) (missing (Reach.Outside at) (flags tf cy) c) ⌝ }
 {
-    stop_if(
-        marked,
-        Act::Does(cpu::stored(c), keep(tf, cy), Reach::Outside(at)),
-    )
+    let a = Act::Does(cpu::stored(c), keep(tf, cy), Reach::Outside(at));
+    stop_if(marked, a)
 }
 
 fn load_at(
