@@ -7,8 +7,12 @@ mod system;
 mod values;
 
 pub use effects::is_wanted;
+pub use entries::data_error;
 pub use entries::enter;
+pub use entries::enter_swint;
+pub use entries::enter_watch;
 pub use entries::fall;
+pub use entries::fetch_error;
 pub use entries::has_break;
 pub use entries::watch;
 pub use operands::data_address;
