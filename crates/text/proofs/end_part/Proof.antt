@@ -1,9 +1,9 @@
 use Rattle.text.proofs.Laws.{rest-of}
+use lib.Seq.{drop-length}
 use lib.ListN.{drop-of-length-le}
-use native.Mathlib.Nat.{le-refl}
 use borrow.Author.Needs.{needs}
-use Rattle.forms.proofs.fields.end_part.Statement.{statement}
-use Rattle.forms.proofs.fields.end_part.Tie as tie
+use Rattle.text.proofs.end_part.Statement.{statement}
+use Rattle.text.proofs.end_part.Tie as tie
 
 sub-result : tie.Need-sub-result
 sub-result c = search needs
@@ -27,7 +27,7 @@ part-result-end-2 : tie.Need-part-result-end-2
 part-result-end-2 c = search needs
 
 returns-2 : tie.Need-returns-2
-returns-2 c = rw (rest-of, drop-of-length-le _ (c .before .if1 .left), drop-of-length-le _ (le-refl _))
+returns-2 c = rw (rest-of, drop-length, drop-of-length-le _ (c .before .if1 .left))
 
 pub end-part-spec : {M : Type 1} → statement M
 end-part-spec =
