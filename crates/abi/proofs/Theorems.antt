@@ -96,11 +96,9 @@ number-above Reply.Form = omega arith
 number-above Reply.TapeLength = omega arith
 number-above Reply.TapeByte = omega arith
 number-above Reply.Budget = omega arith
-number-above Reply.FetchOutside = omega arith
 number-above Reply.FetchMarked = omega arith
 number-above Reply.NoInstruction = omega arith
 number-above Reply.MarkedOperand = omega arith
-number-above Reply.DataOutside = omega arith
 
 pub record-answers : (r m k t : List ℕ) (b : ℕ) → shaped r ≡ true → 0 < called r m k t b .reply
 unfolding called

@@ -60,11 +60,9 @@ reply-small Reply.Form = omega arith
 reply-small Reply.TapeLength = omega arith
 reply-small Reply.TapeByte = omega arith
 reply-small Reply.Budget = omega arith
-reply-small Reply.FetchOutside = omega arith
 reply-small Reply.FetchMarked = omega arith
 reply-small Reply.NoInstruction = omega arith
 reply-small Reply.MarkedOperand = omega arith
-reply-small Reply.DataOutside = omega arith
 
 state-fits : (s : State) → length (stateText s) ≤ 220
 unfolding stateText

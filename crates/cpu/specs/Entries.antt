@@ -23,12 +23,15 @@ enter low c = withPc (withIpc (withPsw c (withBit (withBit (c .psw) 6 (on (c .ps
 -- "Debug entry clears SW, sets PSW 19:16 to ones, and makes HWDBG bits 6 to 8 (BP, WP0, WP1) show exactly this hit"
 -- "Timer entry sets TI (bit 2) and clears pending"
 -- "External sets EI (bit 1) and makes bits 26 to 31 show only the line taken"
+-- "An access outside memory now enters at IBASE with low byte 16. On a fetch, PSW bit 15 is set ..; on data, bit 14" (document 02, ticket 5)
 unfoldable pub entered : Entry → Control → Control
 entered Entry.Nothing c = c
 entered (Entry.Swint n) c = enter 4 (withPsw c (withBit (withField (c .psw) 16 4 n) 0 true))
 entered (Entry.Debug hit) c = enter 4 (withHwdbg (withPsw c (withBit (withField (c .psw) 16 4 15) 0 false)) (withField (c .hwdbg) 6 3 hit))
 entered Entry.Timer c = enter 8 (withPending (withPsw c (withBit (c .psw) 2 true)) false)
 entered (Entry.External i) c = enter 12 (withPsw c (withBit (withField (c .psw) 26 6 (lslOf 1 i)) 1 true))
+entered Entry.FetchError c = enter 16 (withPsw c (withBit (c .psw) 15 true))
+entered Entry.DataError c = enter 16 (withPsw c (withBit (c .psw) 14 true))
 
 -- "BP0 or BP1 is enabled (HWDBG bits 2, 3) and equals the program counter"
 unfoldable pub isBreak : Control → Bool

@@ -143,9 +143,9 @@ accepted c = not (on (c .psw) 3) || on (c .psw) 2
 unfoldable pub timerWritten : ℕ → Control → Control
 timerWritten v c = cond (accepted c) (withTimer c v false) c
 
--- "mtsfr psw keeps bits 12, 14, 15 and 26 to 31"
+-- "mtsfr psw keeps bits 12 .. and 26 to 31"; it "may now write bits 14 and 15" (document 02, ticket 5)
 unfoldable pub pswWritten : ℕ → ℕ → ℕ
-pswWritten p v = withField (withField (withField v 12 1 (fieldOf p 12 1)) 14 2 (fieldOf p 14 2)) 26 6 (fieldOf p 26 6)
+pswWritten p v = withField (withField v 12 1 (fieldOf p 12 1)) 26 6 (fieldOf p 26 6)
 
 -- SFR n written; "mtsfr hwdbg writes bits 2 to 5 only", and there is none past 10
 unfoldable pub written : ℕ → ℕ → Control → Control

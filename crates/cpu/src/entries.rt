@@ -1,11 +1,15 @@
 // Entries, breakpoints, watchpoints and the timer.
 ghost use mathlib.Core.Path.{_≡_};
-ghost use mathlib.Core.Bool.{_&&_};
+ghost use mathlib.Core.Bool.{true, _&&_};
 ghost use lib.Dec.{eqb};
+ghost use Rattle.word.specs.Bits.{withBit};
+ghost use Rattle.cpu.specs.Control.{withPsw};
 ghost use Rattle.cpu.specs.Entries.{vector, enter, entered, isBreak, watchHit, watchEntry, fallen};
+ghost use Rattle.cpu.specs.Exec.{onward};
 ghost use Rattle.cpu.specs.declared.Entry.{Entry};
 use crate::Control;
 use crate::Entry;
+use crate::effects::go_on;
 use crate::places::with_hwdbg;
 use crate::places::with_ipc;
 use crate::places::with_pc;
@@ -28,7 +32,7 @@ fn enter_at(low: u32, c: Control) -> Control
     with_pc(with_ipc(on, c.pc), vector_at(low, c))
 }
 
-fn enter_swint(n: u32, c: Control) -> Control
+pub fn enter_swint(n: u32, c: Control) -> Control
     ensures { λ r. ⌜ r ≡ entered (Entry.Swint n) c ⌝ }
 {
     let p = word::with_field(c.psw, 16, 4, n);
@@ -57,6 +61,27 @@ fn enter_external(i: u32, c: Control) -> Control
     enter_at(12, with_psw(c, word::with_bit(p, 1, true)))
 }
 
+// A bus error's bit of PSW says whether a fetch or data met it.
+fn enter_error(bit: u32, c: Control) -> Control
+    ensures { λ r. ⌜ r ≡ enter 16 (withPsw c (withBit (c .psw) bit true)) ⌝ }
+{
+    enter_at(16, with_psw(c, word::with_bit(c.psw, bit, true)))
+}
+
+// A fetch outside memory.
+pub fn fetch_error(c: Control) -> Control
+    ensures { λ r. ⌜ r ≡ entered Entry.FetchError c ⌝ }
+{
+    enter_error(15, c)
+}
+
+// Data outside memory: the entry is made at the next instruction.
+pub fn data_error(c: Control) -> Control
+    ensures { λ r. ⌜ r ≡ entered Entry.DataError (onward 2 c) ⌝ }
+{
+    enter_error(14, go_on(2, c))
+}
+
 pub fn enter(e: Entry, c: Control) -> Control
     ensures { λ r. ⌜ r ≡ entered e c ⌝ }
 {
@@ -66,6 +91,8 @@ pub fn enter(e: Entry, c: Control) -> Control
         Entry::Debug(hit) => enter_debug(hit, c),
         Entry::Timer => enter_timer(c),
         Entry::External(i) => enter_external(i, c),
+        Entry::FetchError => enter_error(15, c),
+        Entry::DataError => enter_error(14, c),
     }
 }
 
@@ -104,6 +131,17 @@ pub fn watch(a: ByteAddr, c: Control) -> Entry
     } else {
         Entry::Nothing
     }
+}
+
+// The same entry made, or none. An entry that is made where it is known costs the machine's loop less than one that is matched again.
+pub fn enter_watch(a: ByteAddr, c: Control) -> Control
+    ensures { λ r. ⌜ r ≡ entered (watchEntry a c) c ⌝ }
+{
+    if word::field(c.hwdbg, 4, 2) == 0 {
+        return c;
+    }
+    let hit = watch_hit(a, c);
+    if 0 < hit { enter_debug(hit, c) } else { c }
 }
 
 // A match on TIMER costs the compiler fewer instructions than a comparison.

@@ -7,8 +7,12 @@ mod system;
 mod values;
 
 pub use effects::is_wanted;
+pub use entries::data_error;
 pub use entries::enter;
+pub use entries::enter_swint;
+pub use entries::enter_watch;
 pub use entries::fall;
+pub use entries::fetch_error;
 pub use entries::has_break;
 pub use entries::watch;
 pub use operands::data_address;
@@ -63,13 +67,15 @@ pub struct Sources {
     pub second: u32,
 }
 
-// An entry: a swint's four bits, the hit that a debug entry shows, and the line of an external one.
+// An entry: a swint's four bits, the hit that a debug entry shows, the line of an external one, and bus errors of a fetch and of data.
 pub enum Entry {
     Nothing,
     Swint(u32),
     Debug(u32),
     Timer,
     External(u32),
+    FetchError,
+    DataError,
 }
 
 // There are sixteen registers: this is none of them.

@@ -47,8 +47,7 @@ fn keep_psw(p: u32, v: u32) -> u32
     ensures { λ r. ⌜ r ≡ pswWritten p v ⌝ }
 {
     let a = word::with_field(v, 12, 1, word::field(p, 12, 1));
-    let b = word::with_field(a, 14, 2, word::field(p, 14, 2));
-    word::with_field(b, 26, 6, word::field(p, 26, 6))
+    word::with_field(a, 26, 6, word::field(p, 26, 6))
 }
 
 fn write_sfr(n: u32, v: u32, c: Control) -> Control

@@ -12,7 +12,7 @@ use Rattle.cpu.specs.declared.Control.{Control}
 use Rattle.marks.specs.Marks.{taint, blocked}
 use Rattle.marks.specs.Memory.{markedAt}
 use Rattle.marks.specs.declared.Flags.{Flags}
-use Rattle.instruction.specs.declared.Reply.{Reply}
+use Rattle.instruction.specs.declared.Halt.{Halt}
 use Rattle.instruction.specs.declared.Reach.{Reach}
 use Rattle.instruction.specs.declared.Act.{Act}
 
@@ -64,8 +64,8 @@ loadedMark (Reach.Raises n) k = false
 -- what it does, x and y its operands; y is the base, the target or the source whose mark the rules test
 unfoldable pub actOf : Instr → Val → Val → Flags → Control → List ℕ → List ℕ → Act
 actOf i x y f c m k =
-    cond (blocked i (y .mark) f) (Act.Stop Reply.MarkedOperand)
-    (cond (outside (reachOf i (y .value) c) m) (Act.Stop Reply.DataOutside)
+    cond (blocked i (y .mark) f) (Act.Halted Halt.MarkedOperand)
+    (cond (outside (reachOf i (y .value) c) m) (Act.Halted Halt.DataOutside)
     (Act.Does (exec i (x .value) (y .value) (loadedFrom (reachOf i (y .value) c) m) c)
     (taint i (x .mark) (y .mark) (loadedMark (reachOf i (y .value) c) k) (tf c) f)
     (reachOf i (y .value) c)))

@@ -1,4 +1,4 @@
-// One instruction with marks: its fetch, with the order of its stops, and what it does or why it stops.
+// One instruction with marks: its fetch, with the order of its tests, and what it does or why it is not done.
 pub mod classes;
 pub mod fetch;
 
@@ -18,6 +18,13 @@ pub enum Reply {
     TapeLength,
     TapeByte,
     Budget,
+    FetchMarked,
+    NoInstruction,
+    MarkedOperand,
+}
+
+// Why an instruction is not done, in the order of the tests. An access outside memory is a bus error; the others stop the run.
+pub enum Halt {
     FetchOutside,
     FetchMarked,
     NoInstruction,
@@ -26,13 +33,13 @@ pub enum Reply {
 }
 
 pub enum Fetched {
-    Stop(Reply),
+    Halted(Halt),
     Run(Instr),
 }
 
 // Half an instruction, or why it cannot be read.
 pub enum Half {
-    Stop(Reply),
+    Halted(Halt),
     Bits(u16),
 }
 
@@ -44,9 +51,9 @@ pub enum Reach {
     Raises(u32),
 }
 
-// One instruction: it stops, or has an effect, marks, and a place that it reaches.
+// One instruction: it is not done, or has an effect, marks, and a place that it reaches.
 pub enum Act {
-    Stop(Reply),
+    Halted(Halt),
     Does(Effect, Taint, Reach),
 }
 
@@ -62,10 +69,8 @@ pub fn number(r: Reply) -> u32
         Reply::TapeLength => 5,
         Reply::TapeByte => 6,
         Reply::Budget => 10,
-        Reply::FetchOutside => 11,
         Reply::FetchMarked => 12,
         Reply::NoInstruction => 13,
         Reply::MarkedOperand => 14,
-        Reply::DataOutside => 15,
     }
 }

@@ -29,15 +29,16 @@ use Rattle.marks.specs.declared.Flags.{Flags}
 use Rattle.marks.specs.declared.Taint.{Taint}
 use Rattle.instruction.specs.Fetch.{fetchOf}
 use Rattle.instruction.specs.Act.{Val, reachOf, outside, loadedFrom, loadedMark, actOf}
-use Rattle.instruction.specs.declared.Reply.{Reply}
+use Rattle.instruction.specs.declared.Halt.{Halt}
 use Rattle.instruction.specs.declared.Fetched.{Fetched}
 use Rattle.instruction.specs.declared.Reach.{Reach}
 use Rattle.instruction.specs.declared.Act.{Act}
 use Rattle.machine.specs.State.{valueAt}
-use Rattle.machine.specs.Step.{Stepped, stopped, completed, chosen, entryBy, entryDone, doneOf, actStep, instrStep, fetchStep, eventStep, stepOf, after}
+use Rattle.machine.specs.Step.{Stepped, stopped, completed, chosen, entryBy, entryDone, doneOf, haltStep, actStep, instrStep, fetchStep, eventStep, stepOf, after}
 use Rattle.machine.specs.Run.{runOf}
 use Rattle.machine.specs.declared.State.{State}
 use Rattle.machine.specs.declared.Event.{Event}
+use Rattle.machine.specs.declared.Data.{Data}
 use Rattle.laws.specs.Form.{Form}
 use Rattle.laws.proofs.Every.{After, run-every}
 
@@ -160,6 +161,8 @@ entries (Entry.Debug hit) c f =
 entries Entry.Timer c f = enters _ (pending _ (bit c f 2 true (lit≤ tt))) 8 refl (lit< tt)
 entries (Entry.External i) c f =
     enters _ (psw c f _ (under (put (c .psw) 26 6 (lslOf 1 i)) 1 1 1 (lit≤ tt) (over (c .psw) 26 6 (lslOf 1 i) (lit≤ tt) (f .twelve)))) 12 refl (lit< tt)
+entries Entry.FetchError c f = enters _ (psw c f _ (over (c .psw) 15 1 1 (lit≤ tt) (f .twelve))) 16 refl (lit< tt)
+entries Entry.DataError c f = enters _ (psw c f _ (over (c .psw) 14 1 1 (lit≤ tt) (f .twelve))) 16 refl (lit< tt)
 
 -- what instructions do to the control part
 module _ (c : Control) (f : Form c) where
@@ -183,9 +186,8 @@ module _ (c : Control) (f : Form c) where
   unfolding pswWritten
   kept-psw v =
       let p : ℕ = c .psw in
-      over (put (put v 12 1 (fieldOf p 12 1)) 14 2 (fieldOf p 14 2)) 26 6 (fieldOf p 26 6) (lit≤ tt)
-      (over (put v 12 1 (fieldOf p 12 1)) 14 2 (fieldOf p 14 2) (lit≤ tt)
-      (ap (λ (n : ℕ). eqb n 1) (read-back v 12 1 (fieldOf p 12 1) ∙ mod-mod (p / 2 ^ 12) (2 ^ 1)) ∙ f .twelve))
+      over (put v 12 1 (fieldOf p 12 1)) 26 6 (fieldOf p 26 6) (lit≤ tt)
+      (ap (λ (n : ℕ). eqb n 1) (read-back v 12 1 (fieldOf p 12 1) ∙ mod-mod (p / 2 ^ 12) (2 ^ 1)) ∙ f .twelve)
 
   timed : (v : ℕ) → Form (timerWritten v c)
   unfolding timerWritten
@@ -263,36 +265,49 @@ abbrev Kept : Stepped → Type 0
 Kept (stopped r) = Unit {0}
 Kept (completed d m k x) = Form (d .control)
 
-acted : (t u : Bool) (p q : Reply) (e : Effect) (n : Taint) (r : Reach) (x : Val) (c : Control) (m k : List ℕ) → Form (e .control)
-    → Kept (actStep (cond t (Act.Stop p) (cond u (Act.Stop q) (Act.Does e n r))) x c m k)
-unfolding doneOf
-acted true u p q e n r x c m k f = tt
-acted false true p q e n r x c m k f = tt
-acted false false p q e n r x c m k f =
-    falls (entered (entryBy r (e .control)) (e .control)) (entries (entryBy r (e .control)) (e .control) f) (on (c .psw) 4 && not (e .wrote))
+enters-kept : (e : Entry) (f : Flags) (c : Control) → Form c → Form (entryDone e f c .control)
+unfolding entryDone
+enters-kept e f c g = falls _ (entries e c g) (on (c .psw) 4)
 
-acts : (i : Instr) (x y : Val) (f : Flags) (c : Control) (m k : List ℕ) → Form c → Kept (actStep (actOf i x y f c m k) x c m k)
+halt-keeps : (h : Halt) (a : Data) (f : Flags) (c : Control) (m k : List ℕ) → Form c → Kept (haltStep h a f c m k)
+halt-keeps Halt.FetchOutside a f c m k g = enters-kept Entry.FetchError f c g
+halt-keeps Halt.FetchMarked a f c m k g = tt
+halt-keeps Halt.NoInstruction a f c m k g = tt
+halt-keeps Halt.MarkedOperand a f c m k g = tt
+halt-keeps Halt.DataOutside a f c m k g = enters-kept Entry.DataError f (onward 2 c) (onwards c g 2 refl)
+
+acted : (t u : Bool) (p q : Halt) (e : Effect) (n : Taint) (r : Reach) (a : Data) (x : Val) (f : Flags) (c : Control) (m k : List ℕ) → Form c → Form (e .control)
+    → Kept (actStep (cond t (Act.Halted p) (cond u (Act.Halted q) (Act.Does e n r))) a x f c m k)
+unfolding doneOf
+acted true u p q e n r a x f c m k i g = halt-keeps p a f c m k i
+acted false true p q e n r a x f c m k i g = halt-keeps q a f c m k i
+acted false false p q e n r a x f c m k i g =
+    falls (entered (entryBy r (e .control)) (e .control)) (entries (entryBy r (e .control)) (e .control) g) (on (c .psw) 4 && not (e .wrote))
+
+acts : (i : Instr) (a : Data) (x y : Val) (f : Flags) (c : Control) (m k : List ℕ) → Form c → Kept (actStep (actOf i x y f c m k) a x f c m k)
 unfolding actOf
-acts i x y f c m k g =
+acts i a x y f c m k g =
     let r : Reach = reachOf i (y .value) c in
-    acted (blocked i (y .mark) f) (outside r m) Reply.MarkedOperand Reply.DataOutside
+    acted (blocked i (y .mark) f) (outside r m) Halt.MarkedOperand Halt.DataOutside
     (exec i (x .value) (y .value) (loadedFrom r m) c)
     (taint i (x .mark) (y .mark) (loadedMark r k) (tf c) f)
     r
+    a
     x
+    f
     c
     m
     k
+    g
     (executes c g i (x .value) (y .value) (loadedFrom r m))
 
 fetches : (x : Fetched) (s : State) (m k : List ℕ) → Form (s .control) → Kept (fetchStep x s m k)
 unfolding instrStep
-fetches (Fetched.Stop r) s m k f = tt
-fetches (Fetched.Run i) s m k f = acts i (valueAt s (sourcesOf i .first)) (valueAt s (sourcesOf i .second)) (s .flags) (s .control) m k f
+fetches (Fetched.Halted h) s m k f = halt-keeps h Data.Nowhere (s .flags) (s .control) m k f
+fetches (Fetched.Run i) s m k f = acts i _ (valueAt s (sourcesOf i .first)) (valueAt s (sourcesOf i .second)) (s .flags) (s .control) m k f
 
 event-keeps : (v : Event) (s : State) (m k : List ℕ) → Form (s .control) → Kept (eventStep v s m k)
-unfolding entryDone
-event-keeps (Event.Enter e) s m k f = falls _ (entries e (s .control) f) (on (s .control .psw) 4)
+event-keeps (Event.Enter e) s m k f = enters-kept e (s .flags) (s .control) f
 event-keeps Event.Instruction s m k f = fetches (fetchOf (pcOf (s .control)) m k) s m k f
 
 step-keeps : (t : ℕ) (s : State) (m k : List ℕ) → Form (s .control) → Kept (stepOf t s m k)

@@ -1,5 +1,6 @@
 pub mod Every
 pub mod Keeps
+pub mod Stops
 pub mod Cut
 pub mod Trace
 pub mod Theorems

@@ -11,24 +11,35 @@ use borrow.Author.Tests.{eqb-true, eqb-false, ltb-false, not-false}
 use Rattle.word.specs.Bits.{on, fieldOf}
 use Rattle.cpu.specs.Control.{pcOf}
 use Rattle.cpu.specs.Entries.{entered}
+use Rattle.cpu.specs.Exec.{onward, sourcesOf}
 use Rattle.cpu.specs.declared.Control.{Control}
 use Rattle.cpu.specs.declared.Entry.{Entry}
+use Rattle.isa.specs.declared.Instr.{Instr}
+use Rattle.marks.specs.Marks.{blocked}
+use Rattle.instruction.specs.Reply.{numberOf}
+use Rattle.instruction.specs.Fetch.{fetchOf}
+use Rattle.instruction.specs.Act.{outside, actOf}
 use Rattle.instruction.specs.declared.Reply.{Reply}
-use Rattle.machine.specs.State.{outOfForm}
-use Rattle.machine.specs.Step.{stopped, completed, stepOf}
+use Rattle.instruction.specs.declared.Halt.{Halt}
+use Rattle.instruction.specs.declared.Fetched.{Fetched}
+use Rattle.machine.specs.State.{valueAt, outOfForm}
+use Rattle.machine.specs.Step.{stopped, completed, chosen, dataOf, entryDone, entryStep, instrStep, stepOf}
 use Rattle.machine.specs.Run.{final, goOn, stepsOf, judge, runOf}
 use Rattle.machine.specs.Trace.{traceOf, shownOf}
 use Rattle.trace.specs.Seen.{seenIn}
 use Rattle.machine.specs.declared.State.{State}
+use Rattle.machine.specs.declared.Event.{Event}
 use Rattle.machine.specs.declared.Judged.{Judged}
 use Rattle.machine.specs.declared.Ended.{Ended}
 use Rattle.machine.specs.declared.Done.{Done}
 use Rattle.machine.specs.declared.Line.{Line}
 use Rattle.trace.specs.declared.Seen.{Seen}
+use Rattle.laws.specs.Replies.{Stops, Replies}
 use Rattle.laws.specs.Form.{Form}
 use Rattle.laws.specs.Cut.{resume}
-use Rattle.laws.specs.Shows.{Shows, Entered, Bits, Returned, backFrom, ChangedAt}
+use Rattle.laws.specs.Shows.{reachIn, Shows, Entered, Bits, Returned, backFrom, ChangedAt}
 use Rattle.laws.proofs.Keeps.{run-keeps}
+use Rattle.laws.proofs.Stops.{StepStops, step-stops, run-replies}
 use Rattle.laws.proofs.Cut.{cut}
 use Rattle.laws.proofs.Trace.{Told, told, entry-bits, return-bits, run-counted, nth-line}
 
@@ -110,7 +121,30 @@ a-line-is-true t s m k d l j x e = subst (Told t s m k) e (told t s m k)
 pub an-entry-by-its-bits : (e : Entry) (c : Control) → Bits e c (entered e c)
 an-entry-by-its-bits = entry-bits
 
--- 9. jsfr of IPC goes back to IPC, brings IP back from BIP and makes BIP 0 ..
+-- 9. An access outside memory is a bus error, and the step completes. On a fetch the entry is made at the instruction's own address ..
+pub fetch-outside : (t : ℕ) (s : State) (m k : List ℕ) → chosen t (s .control) ≡ Event.Instruction → fetchOf (pcOf (s .control)) m k ≡ Fetched.Halted Halt.FetchOutside
+    → stepOf t s m k ≡ entryStep Entry.FetchError (s .flags) (s .control) m k
+unfolding stepOf
+fetch-outside t s m k c f = rw (c, f)
+
+-- .. and on data, if no marked operand stops it, at the next instruction; memory and marks are as before, and no register is written.
+pub data-outside : (t : ℕ) (s : State) (m k : List ℕ) (i : Instr) → chosen t (s .control) ≡ Event.Instruction → fetchOf (pcOf (s .control)) m k ≡ Fetched.Run i
+    → blocked i (valueAt s (sourcesOf i .second) .mark) (s .flags) ≡ false → outside (reachIn i s) m ≡ true
+    → stepOf t s m k
+    ≡ completed (entryDone Entry.DataError (s .flags) (onward 2 (s .control))) m k
+    (record { pc = pcOf (s .control); entry = Entry.DataError; address = dataOf (reachIn i s) })
+unfolding stepOf instrStep actOf
+data-outside t s m k i c f b o = rw (c, f, b, o)
+
+-- 10. A step stops with 12, 13 or 14 and nothing else ..
+pub a-step-stops-with : (t : ℕ) (s : State) (m k : List ℕ) (r : Reply) → stepOf t s m k ≡ stopped r → Stops (numberOf r)
+a-step-stops-with t s m k r e = subst StepStops e (step-stops t s m k)
+
+-- .. so these are the replies that a run can give: 1 to 6, 10, 12, 13 and 14.
+pub replies-of-a-run : (b : ℕ) (t : List ℕ) (s : State) (m k : List ℕ) → Replies (numberOf (runOf b t s m k .ended .reply))
+replies-of-a-run = run-replies
+
+-- 11. jsfr of IPC goes back to IPC, brings IP back from BIP and makes BIP 0 ..
 pub a-return-by-its-bits : (c : Control) → Returned c (backFrom c)
 a-return-by-its-bits = return-bits
 

@@ -2,7 +2,7 @@
 -- Assumes nothing.
 use Prim.Native.Nat.{ℕ, zero, suc, _+_, _%_, _^_, _≤_, _<_}
 use mathlib.Core.Path.{_≡_, refl, ap, _∙_}
-use mathlib.Core.Bool.{Bool, true, false, cond}
+use mathlib.Core.Bool.{Bool, true, false, cond, not}
 use mathlib.Core.List.{List}
 use native.Mathlib.Omega.{arith}
 use native.Mathlib.Nat.{not-suc-le-zero}
@@ -11,20 +11,24 @@ use lib.ListN.{length, getD}
 use Rattle.word.specs.Bits.{num, on, fieldOf, put, withField}
 use Rattle.word.specs.Bytes.{bytesOf, inside, store}
 use Rattle.word.specs.Numbers.{lslOf}
+use Rattle.word.specs.declared.ByteAddr.{ByteAddr}
 use Rattle.word.specs.declared.Width.{Width}
 use Rattle.word.proofs.Fields.{kept-above, kept-below, read-back}
 use Rattle.word.proofs.Memory.{store-kept}
 use Rattle.isa.specs.declared.Instr.{Instr}
+use Rattle.isa.specs.declared.Decoded.{Decoded}
 use Rattle.cpu.specs.Control.{pcOf, withPc, withSfr, withPsw, withHwdbg, withPending, tf}
 use Rattle.cpu.specs.Entries.{enter, entered}
-use Rattle.cpu.specs.Exec.{goTo, leave, exec, sourcesOf}
+use Rattle.cpu.specs.Exec.{onward, goTo, leave, exec, sourcesOf}
 use Rattle.cpu.specs.declared.Control.{Control}
 use Rattle.cpu.specs.declared.Entry.{Entry}
 use Rattle.marks.specs.Marks.{taint, blocked}
+use Rattle.marks.specs.Memory.{markedAt}
 use Rattle.marks.specs.declared.Taint.{Taint}
-use Rattle.instruction.specs.Fetch.{fetchOf}
+use Rattle.instruction.specs.Fetch.{afterHalf, guarded, found, fetchOf}
 use Rattle.instruction.specs.Act.{Val, outside, loadedMark, actOf}
-use Rattle.instruction.specs.declared.Reply.{Reply}
+use Rattle.instruction.specs.Statements.{decodedAt}
+use Rattle.instruction.specs.declared.Halt.{Halt}
 use Rattle.instruction.specs.declared.Fetched.{Fetched}
 use Rattle.instruction.specs.declared.Reach.{Reach}
 use Rattle.instruction.specs.declared.Act.{Act}
@@ -36,9 +40,10 @@ use Rattle.trace.specs.Seen.{seenIn}
 use Rattle.machine.specs.declared.State.{State}
 use Rattle.machine.specs.declared.Event.{Event}
 use Rattle.machine.specs.declared.Judged.{Judged}
+use Rattle.machine.specs.declared.Data.{Data}
 use Rattle.machine.specs.declared.Line.{Line}
 use Rattle.trace.specs.declared.Seen.{Seen}
-use Rattle.laws.specs.Shows.{reachIn, effectIn, Shows, by-choice, by-instruction, Entered, Bits, Returned, backFrom, ChangedAt}
+use Rattle.laws.specs.Shows.{reachIn, effectIn, Shows, by-choice, by-instruction, by-fetch, by-data, Entered, Bits, Returned, backFrom, ChangedAt}
 
 -- ---- one step and its line
 
@@ -59,36 +64,77 @@ stored-at (Reach.Writes w a) v m = λ i h. go (inside m a (bytesOf w)) i h
     go false i h = refl
 stored-at (Reach.Raises n) v m = refl
 
+-- no fetch meets data outside memory
+abbrev FetchHalts : Fetched → Type 0
+FetchHalts (Fetched.Halted Halt.FetchOutside) = Unit {0}
+FetchHalts (Fetched.Halted Halt.FetchMarked) = Unit {0}
+FetchHalts (Fetched.Halted Halt.NoInstruction) = Unit {0}
+FetchHalts (Fetched.Halted Halt.MarkedOperand) = Unit {0}
+FetchHalts (Fetched.Halted Halt.DataOutside) = ⊥
+FetchHalts (Fetched.Run i) = Unit {0}
+
+guarded-halts : (a : ByteAddr) (m k : List ℕ) (x : Fetched) → FetchHalts x → FetchHalts (guarded a m k x)
+guarded-halts a m k x p = go (not (inside m a 2)) (markedAt Width.Half k a)
+  where
+    go : (t u : Bool) → FetchHalts (cond t (Fetched.Halted Halt.FetchOutside) (cond u (Fetched.Halted Halt.FetchMarked) x))
+    go true u = tt
+    go false true = tt
+    go false false = p
+
+found-halts : (d : Decoded) (b : ByteAddr) (m k : List ℕ) → FetchHalts (found d b m k)
+found-halts (Decoded.Short i) b m k = tt
+found-halts (Decoded.Long i) b m k = guarded-halts b m k (Fetched.Run i) tt
+found-halts Decoded.Nothing b m k = tt
+
+fetch-halts : (a : ByteAddr) (m k : List ℕ) → FetchHalts (fetchOf a m k)
+unfolding fetchOf
+fetch-halts a m k = go (eqb (a .0 % 2) 1)
+  where
+    x : Fetched
+    x = found (decodedAt m a) (afterHalf a) m k
+
+    go : (o : Bool) → FetchHalts (cond o (Fetched.Halted Halt.NoInstruction) (guarded a m k x))
+    go true = tt
+    go false = guarded-halts a m k x (found-halts (decodedAt m a) (afterHalf a) m k)
+
 -- what the line of a completed step says: its program counter, its entry, and where memory changed
 module _ (t : ℕ) (s : State) (m k : List ℕ) where
   abbrev pub Told : Stepped → Type 0
   Told (stopped r) = Unit {0}
   Told (completed d l j x) = (x .pc ≡ pcOf (s .control)) × Shows t s m k d x × ChangedAt (x .address) m l
 
+  nothing-stored : (a : Data) → ChangedAt a m m
+  nothing-stored Data.Nowhere = refl
+  nothing-stored (Data.At a) = λ i h. refl
+
   module _ (i : Instr) (c : chosen t (s .control) ≡ Event.Instruction) (f : fetchOf (pcOf (s .control)) m k ≡ Fetched.Run i) where
-    acted : (b u : Bool) (p q : Reply) (n : Taint)
-        → Told (actStep (cond b (Act.Stop p) (cond u (Act.Stop q) (Act.Does (effectIn i s m) n (reachIn i s)))) (valueAt s (sourcesOf i .first)) (s .control) m k)
-    unfolding doneOf lineOf
-    acted true u p q n = tt
-    acted false true p q n = tt
-    acted false false p q n = (refl, by-instruction i c f refl refl, stored-at (reachIn i s) (valueAt s (sourcesOf i .first) .value) m)
+    acted : (b u : Bool) (n : Taint) → outside (reachIn i s) m ≡ u
+        → Told (actStep (cond b (Act.Halted Halt.MarkedOperand) (cond u (Act.Halted Halt.DataOutside) (Act.Does (effectIn i s m) n (reachIn i s)))) (dataOf (reachIn i s)) (valueAt s (sourcesOf i .first)) (s .flags) (s .control) m k)
+    unfolding doneOf lineOf entryDone onward withPc
+    acted true u n o = tt
+    acted false true n o = (refl, by-data i c f o refl refl refl, nothing-stored (dataOf (reachIn i s)))
+    acted false false n o = (refl, by-instruction i c f o refl refl, stored-at (reachIn i s) (valueAt s (sourcesOf i .first) .value) m)
 
     acts : Told (instrStep i s m k)
     unfolding instrStep actOf
     acts =
         let x : Val = valueAt s (sourcesOf i .first) in
         let y : Val = valueAt s (sourcesOf i .second) in
-        acted (blocked i (y .mark) (s .flags)) (outside (reachIn i s) m) Reply.MarkedOperand Reply.DataOutside
-        (taint i (x .mark) (y .mark) (loadedMark (reachIn i s) k) (tf (s .control)) (s .flags))
+        acted (blocked i (y .mark) (s .flags)) (outside (reachIn i s) m) (taint i (x .mark) (y .mark) (loadedMark (reachIn i s) k) (tf (s .control)) (s .flags)) refl
 
-  fetched : (x : Fetched) → chosen t (s .control) ≡ Event.Instruction → fetchOf (pcOf (s .control)) m k ≡ x → Told (fetchStep x s m k)
-  fetched (Fetched.Stop r) c f = tt
-  fetched (Fetched.Run i) c f = acts i c f
+  fetched : (x : Fetched) → FetchHalts x → chosen t (s .control) ≡ Event.Instruction → fetchOf (pcOf (s .control)) m k ≡ x → Told (fetchStep x s m k)
+  unfolding entryDone
+  fetched (Fetched.Halted Halt.FetchOutside) p c f = (refl, by-fetch c f refl refl refl, refl)
+  fetched (Fetched.Halted Halt.FetchMarked) p c f = tt
+  fetched (Fetched.Halted Halt.NoInstruction) p c f = tt
+  fetched (Fetched.Halted Halt.MarkedOperand) p c f = tt
+  fetched (Fetched.Halted Halt.DataOutside) p c f = absurd p
+  fetched (Fetched.Run i) p c f = acts i c f
 
   happened : (v : Event) → chosen t (s .control) ≡ v → Told (eventStep v s m k)
   unfolding entryDone
   happened (Event.Enter e) c = (refl, by-choice c refl refl, refl)
-  happened Event.Instruction c = fetched (fetchOf (pcOf (s .control)) m k) c refl
+  happened Event.Instruction c = fetched (fetchOf (pcOf (s .control)) m k) (fetch-halts (pcOf (s .control)) m k) c refl
 
   pub told : Told (stepOf t s m k)
   unfolding stepOf
@@ -162,6 +208,20 @@ entry-bits (Entry.External i) c =
       enters 12 (withPsw c p) c refl refl (ip-kept (c .psw) 26 6 (lslOf 1 i) 1 1 (lit≤ tt) (lit≤ tt)),
       on-of 1 (low-kept p (on p 3) 1 1 (lit≤ tt) ∙ read-back (put (c .psw) 26 6 (lslOf 1 i)) 1 1 1),
       high-kept p (on p 3) 26 6 (lit≤ tt) ∙ kept-above (put (c .psw) 26 6 (lslOf 1 i)) 1 1 1 26 6 (lit≤ tt) ∙ read-back (c .psw) 26 6 (lslOf 1 i),
+    )
+entry-bits Entry.FetchError c =
+    let p : ℕ = put (c .psw) 15 1 1 in (
+      enters 16 (withPsw c p) c refl refl (kept-below (c .psw) 15 1 1 3 1 (lit≤ tt)),
+      on-of 1 (high-kept p (on p 3) 15 1 (lit≤ tt) ∙ read-back (c .psw) 15 1 1),
+      on-of 1 (high-kept p (on p 3) 14 1 (lit≤ tt) ∙ kept-below (c .psw) 15 1 1 14 1 (lit≤ tt)),
+      refl,
+    )
+entry-bits Entry.DataError c =
+    let p : ℕ = put (c .psw) 14 1 1 in (
+      enters 16 (withPsw c p) c refl refl (kept-below (c .psw) 14 1 1 3 1 (lit≤ tt)),
+      on-of 1 (high-kept p (on p 3) 14 1 (lit≤ tt) ∙ read-back (c .psw) 14 1 1),
+      on-of 1 (high-kept p (on p 3) 15 1 (lit≤ tt) ∙ kept-above (c .psw) 14 1 1 15 1 (lit≤ tt)),
+      refl,
     )
 
 -- ---- the return from an entry

@@ -1,3 +1,4 @@
+pub mod Replies
 pub mod Form
 pub mod Cut
 pub mod Shows

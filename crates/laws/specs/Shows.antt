@@ -12,12 +12,13 @@ use Rattle.word.specs.declared.Width.{Width}
 use Rattle.isa.specs.declared.Instr.{Instr}
 use Rattle.cpu.specs.Control.{pcOf}
 use Rattle.cpu.specs.Entries.{vector, entered, fallen}
-use Rattle.cpu.specs.Exec.{exec, sourcesOf}
+use Rattle.cpu.specs.Exec.{onward, exec, sourcesOf}
 use Rattle.cpu.specs.declared.Control.{Control}
 use Rattle.cpu.specs.declared.Effect.{Effect}
 use Rattle.cpu.specs.declared.Entry.{Entry}
 use Rattle.instruction.specs.Fetch.{fetchOf}
-use Rattle.instruction.specs.Act.{reachOf, loadedFrom}
+use Rattle.instruction.specs.Act.{reachOf, outside, loadedFrom}
+use Rattle.instruction.specs.declared.Halt.{Halt}
 use Rattle.instruction.specs.declared.Fetched.{Fetched}
 use Rattle.instruction.specs.declared.Reach.{Reach}
 use Rattle.machine.specs.State.{valueAt}
@@ -36,14 +37,23 @@ abbrev pub effectIn : Instr → State → List ℕ → Effect
 effectIn i s m = exec i (valueAt s (sourcesOf i .first) .value) (valueAt s (sourcesOf i .second) .value) (loadedFrom (reachIn i s) m) (s .control)
 
 -- A completed step made d from state s, memory m and marks k on, with the tape's byte t, and shows line x. The entry that the line names is the one that was
--- made: on the control part before the step if an entry was chosen, on what the instruction left if one was done; then the timer fell or not.
+-- made: on the control part before the step if an entry was chosen or the fetch was a bus error, on what the instruction left if one was done, and at the next
+-- instruction if its data were outside memory; then the timer fell or not.
 pub data Shows (t : ℕ) (s : State) (m k : List ℕ) (d : Done) (x : Line) : Type 0 where
   by-choice : chosen t (s .control) ≡ Event.Enter (x .entry) → x .address ≡ Data.Nowhere
       → d .control ≡ fallen (on (s .control .psw) 4) (entered (x .entry) (s .control))
       → Shows t s m k d x
   by-instruction : (i : Instr) → chosen t (s .control) ≡ Event.Instruction → fetchOf (pcOf (s .control)) m k ≡ Fetched.Run i
-      → x .address ≡ dataOf (reachIn i s)
+      → outside (reachIn i s) m ≡ false → x .address ≡ dataOf (reachIn i s)
       → d .control ≡ fallen (on (s .control .psw) 4 && not (effectIn i s m .wrote)) (entered (x .entry) (effectIn i s m .control))
+      → Shows t s m k d x
+  by-fetch : chosen t (s .control) ≡ Event.Instruction → fetchOf (pcOf (s .control)) m k ≡ Fetched.Halted Halt.FetchOutside
+      → x .entry ≡ Entry.FetchError → x .address ≡ Data.Nowhere
+      → d .control ≡ fallen (on (s .control .psw) 4) (entered Entry.FetchError (s .control))
+      → Shows t s m k d x
+  by-data : (i : Instr) → chosen t (s .control) ≡ Event.Instruction → fetchOf (pcOf (s .control)) m k ≡ Fetched.Run i
+      → outside (reachIn i s) m ≡ true → x .entry ≡ Entry.DataError → x .address ≡ dataOf (reachIn i s)
+      → d .control ≡ fallen (on (s .control .psw) 4) (entered Entry.DataError (onward 2 (s .control)))
       → Shows t s m k d x
 
 -- an entry by its vector and its bits, from control part c to n: IPC, IP and BIP, the program counter, and what its kind sets
@@ -59,6 +69,8 @@ Bits (Entry.Swint v) c n = Entered 4 c n × (on (n .psw) 0 ≡ true) × (fieldOf
 Bits (Entry.Debug hit) c n = Entered 4 c n × (on (n .psw) 0 ≡ false) × (fieldOf (n .psw) 16 4 ≡ 15) × (fieldOf (n .hwdbg) 6 3 ≡ hit % 8)
 Bits Entry.Timer c n = Entered 8 c n × (on (n .psw) 2 ≡ true) × (n .pending ≡ false)
 Bits (Entry.External i) c n = Entered 12 c n × (on (n .psw) 1 ≡ true) × (fieldOf (n .psw) 26 6 ≡ lslOf 1 i % 64)
+Bits Entry.FetchError c n = Entered 16 c n × (on (n .psw) 15 ≡ true) × (on (n .psw) 14 ≡ on (c .psw) 14) × (n .hwdbg ≡ c .hwdbg)
+Bits Entry.DataError c n = Entered 16 c n × (on (n .psw) 14 ≡ true) × (on (n .psw) 15 ≡ on (c .psw) 15) × (n .hwdbg ≡ c .hwdbg)
 
 -- jsfr of IPC, from control part c to n: back at IPC, IP from BIP, BIP 0
 pub record Returned (c n : Control) : Type 0 where

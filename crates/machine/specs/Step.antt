@@ -9,16 +9,18 @@ use Rattle.word.specs.Bits.{on}
 use Rattle.word.specs.Bytes.{storeOf}
 use Rattle.cpu.specs.Control.{pcOf}
 use Rattle.cpu.specs.Entries.{entered, isBreak, watchEntry, fallen}
-use Rattle.cpu.specs.Exec.{noReg, sourcesOf}
+use Rattle.cpu.specs.Exec.{noReg, onward, sourcesOf}
 use Rattle.cpu.specs.declared.Control.{Control}
 use Rattle.cpu.specs.declared.Effect.{Effect}
 use Rattle.cpu.specs.declared.Entry.{Entry}
 use Rattle.isa.specs.declared.Instr.{Instr}
 use Rattle.marks.specs.Memory.{markAll}
+use Rattle.marks.specs.declared.Flags.{Flags}
 use Rattle.marks.specs.declared.Taint.{Taint}
 use Rattle.instruction.specs.Fetch.{fetchOf}
-use Rattle.instruction.specs.Act.{Val, actOf}
+use Rattle.instruction.specs.Act.{Val, reachOf, actOf}
 use Rattle.instruction.specs.declared.Reply.{Reply}
+use Rattle.instruction.specs.declared.Halt.{Halt}
 use Rattle.instruction.specs.declared.Fetched.{Fetched}
 use Rattle.instruction.specs.declared.Reach.{Reach}
 use Rattle.instruction.specs.declared.Act.{Act}
@@ -86,18 +88,28 @@ pub data Stepped : Type 0 where
   completed : Done → List ℕ → List ℕ → Line → Stepped
 
 -- an entry, and the timer's fall; it changes no register
-unfoldable pub entryDone : Entry → State → Done
-entryDone e s =
+unfoldable pub entryDone : Entry → Flags → Control → Done
+entryDone e f c =
     record {
-      control = fallen (on (s .control .psw) 4) (entered e (s .control));
-      flags = s .flags;
+      control = fallen (on (c .psw) 4) (entered e c);
+      flags = f;
       reg = noReg;
       value = 0;
       mark = false;
     }
 
-abbrev pub entryStep : Entry → State → List ℕ → List ℕ → Stepped
-entryStep e s m k = completed (entryDone e s) m k (record { pc = pcOf (s .control); entry = e; address = Data.Nowhere })
+abbrev pub entryStep : Entry → Flags → Control → List ℕ → List ℕ → Stepped
+entryStep e f c m k = completed (entryDone e f c) m k (record { pc = pcOf c; entry = e; address = Data.Nowhere })
+
+-- What comes of an instruction that is not done, one line for each reason: a stop, or a bus error, which is an entry (document 02, ticket 5). "On a fetch, ..
+-- IPC is the instruction's own address; on data, .. IPC is the next instruction, and no register, byte or watchpoint hit changes". a is the data address
+abbrev pub haltStep : Halt → Data → Flags → Control → List ℕ → List ℕ → Stepped
+haltStep Halt.FetchOutside a f c m k = entryStep Entry.FetchError f c m k
+haltStep Halt.FetchMarked a f c m k = stopped Reply.FetchMarked
+haltStep Halt.NoInstruction a f c m k = stopped Reply.NoInstruction
+haltStep Halt.MarkedOperand a f c m k = stopped Reply.MarkedOperand
+haltStep Halt.DataOutside a f c m k =
+    completed (entryDone Entry.DataError f (onward 2 c)) m k (record { pc = pcOf c; entry = Entry.DataError; address = a })
 
 -- an instruction from control part c on: the entry that it makes, and the timer's fall by TE at the step's start
 unfoldable pub doneOf : Control → Effect → Taint → Reach → Done
@@ -113,10 +125,10 @@ doneOf c e t r =
 unfoldable pub lineOf : Control → Effect → Reach → Line
 lineOf c e r = record { pc = pcOf c; entry = entryBy r (e .control); address = dataOf r }
 
--- x is what it may store
-abbrev pub actStep : Act → Val → Control → List ℕ → List ℕ → Stepped
-actStep (Act.Stop r) x c m k = stopped r
-actStep (Act.Does e t r) x c m k = completed (doneOf c e t r) (storedTo r (x .value) m) (markedTo r (x .mark) k) (lineOf c e r)
+-- a is the data address, x what it may store
+abbrev pub actStep : Act → Data → Val → Flags → Control → List ℕ → List ℕ → Stepped
+actStep (Act.Halted h) a x f c m k = haltStep h a f c m k
+actStep (Act.Does e t r) a x f c m k = completed (doneOf c e t r) (storedTo r (x .value) m) (markedTo r (x .mark) k) (lineOf c e r)
 
 -- ---- the step
 
@@ -124,17 +136,19 @@ unfoldable pub instrStep : Instr → State → List ℕ → List ℕ → Stepped
 instrStep i s m k =
     actStep
     (actOf i (valueAt s (sourcesOf i .first)) (valueAt s (sourcesOf i .second)) (s .flags) (s .control) m k)
+    (dataOf (reachOf i (valueAt s (sourcesOf i .second) .value) (s .control)))
     (valueAt s (sourcesOf i .first))
+    (s .flags)
     (s .control)
     m
     k
 
 abbrev pub fetchStep : Fetched → State → List ℕ → List ℕ → Stepped
-fetchStep (Fetched.Stop r) s m k = stopped r
+fetchStep (Fetched.Halted h) s m k = haltStep h Data.Nowhere (s .flags) (s .control) m k
 fetchStep (Fetched.Run i) s m k = instrStep i s m k
 
 abbrev pub eventStep : Event → State → List ℕ → List ℕ → Stepped
-eventStep (Event.Enter e) s m k = entryStep e s m k
+eventStep (Event.Enter e) s m k = entryStep e (s .flags) (s .control) m k
 eventStep Event.Instruction s m k = fetchStep (fetchOf (pcOf (s .control)) m k) s m k
 
 unfoldable pub stepOf : ℕ → State → List ℕ → List ℕ → Stepped

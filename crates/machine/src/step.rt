@@ -4,12 +4,13 @@ ghost use Prim.Native.Nat.{ℕ};
 ghost use Rattle.word.specs.Bits.{on};
 ghost use Rattle.cpu.specs.Entries.{entered, fallen};
 ghost use Rattle.instruction.specs.Parts.{val, flags};
-ghost use Rattle.machine.specs.Step.{storedTo, markedTo, entryBy, doneOf, actStep};
-ghost use Rattle.machine.specs.Parts.{outIn, memIn, marksIn, begunOf, halfStep};
+ghost use Rattle.machine.specs.Step.{storedTo, markedTo, entryBy, doneOf};
+ghost use Rattle.machine.specs.Parts.{haltedTo, begunOf, actOut, actMem, actMarks, halfAct};
 ghost use Rattle.machine.specs.declared.Begun.{Begun};
 use crate::Begun;
 use crate::Done;
 use crate::Event;
+use crate::Halted;
 use crate::Out;
 use crate::choice::choose;
 use cpu::Control;
@@ -18,7 +19,9 @@ use cpu::Entry;
 use instruction::Act;
 use instruction::Fetched;
 use instruction::Half;
+use instruction::Halt;
 use instruction::Reach;
+use instruction::Reply;
 use marks::Flags;
 use marks::Taint;
 use word::ByteAddr;
@@ -27,6 +30,20 @@ fn enter(e: Entry, c: Control) -> Begun
     ensures { λ r. ⌜ r ≡ Begun.Enter (fallen (on (c .psw) 4) (entered e c)) ⌝ }
 {
     Begun::Enter(cpu::fall(word::is_on(c.psw, 4), cpu::enter(e, c)))
+}
+
+// What comes of an instruction that is not done, from control part c on.
+pub fn halt(h: Halt, c: Control) -> Halted
+    ensures { λ r. ⌜ r ≡ haltedTo h c ⌝ }
+{
+    let te = word::is_on(c.psw, 4);
+    match h {
+        Halt::FetchOutside => Halted::Enter(cpu::fall(te, cpu::fetch_error(c))),
+        Halt::FetchMarked => Halted::Stop(Reply::FetchMarked),
+        Halt::NoInstruction => Halted::Stop(Reply::NoInstruction),
+        Halt::MarkedOperand => Halted::Stop(Reply::MarkedOperand),
+        Halt::DataOutside => Halted::Enter(cpu::fall(te, cpu::data_error(c))),
+    }
 }
 
 // All of a step that no register takes part in.
@@ -39,7 +56,7 @@ pub fn begin(t: u32, c: Control, m: &[u8], mk: &[u8]) -> Begun
         Event::Instruction => {
             let f = instruction::fetch::first_half(ByteAddr(c.pc), m, mk);
             match f {
-                Half::Stop(r) => Begun::Stop(r),
+                Half::Halted(h) => Begun::Halted(h),
                 Half::Bits(h) => Begun::Half(h),
             }
         }
@@ -63,9 +80,9 @@ fn enter_by(r: Reach, c: Control) -> Control
 {
     match r {
         Reach::Nowhere => c,
-        Reach::Reads(_, a) => cpu::enter(cpu::watch(a, c), c),
-        Reach::Writes(_, a) => cpu::enter(cpu::watch(a, c), c),
-        Reach::Raises(n) => cpu::enter(Entry::Swint(n), c),
+        Reach::Reads(_, a) => cpu::enter_watch(a, c),
+        Reach::Writes(_, a) => cpu::enter_watch(a, c),
+        Reach::Raises(n) => cpu::enter_swint(n, c),
     }
 }
 
@@ -102,12 +119,12 @@ fn write_at(r: Reach, u: u32, mu: bool, m: &mut [u8], mk: &mut [u8])
 }
 
 fn act_step(a: Act, u: u32, mu: bool, c: Control, m: &mut [u8], mk: &mut [u8]) -> Out
-    ensures { λ r. ⌜ r ≡ outIn (actStep a (val u mu) c (now (m .entry)) (now (mk .entry))) ⌝ }
-    ensures { λ _. ⌜ now (m .exit) ≡ memIn (now (m .entry)) (actStep a (val u mu) c (now (m .entry)) (now (mk .entry))) ⌝ }
-    ensures { λ _. ⌜ now (mk .exit) ≡ marksIn (now (mk .entry)) (actStep a (val u mu) c (now (m .entry)) (now (mk .entry))) ⌝ }
+    ensures { λ r. ⌜ r ≡ actOut a c ⌝ }
+    ensures { λ _. ⌜ now (m .exit) ≡ actMem a (val u mu) (now (m .entry)) ⌝ }
+    ensures { λ _. ⌜ now (mk .exit) ≡ actMarks a (val u mu) (now (mk .entry)) ⌝ }
 {
     match a {
-        Act::Stop(r) => Out::Stop(r),
+        Act::Halted(h) => Out::Halted(h),
         Act::Does(e, t, r) => {
             write_at(r, u, mu, m, mk);
             Out::Go(finish(c, e, t, r))
@@ -128,14 +145,14 @@ pub fn half_step(
     m: &mut [u8],
     mk: &mut [u8],
 ) -> Out
-    ensures { λ r. ⌜ r ≡ outIn (halfStep first (val u mu) (val v mv) (flags tf cy) c (now (m .entry)) (now (mk .entry))) ⌝ }
-    ensures { λ _. ⌜ now (m .exit) ≡ memIn (now (m .entry)) (halfStep first (val u mu) (val v mv) (flags tf cy) c (now (m .entry)) (now (mk .entry))) ⌝ }
-    ensures { λ _. ⌜ now (mk .exit) ≡ marksIn (now (mk .entry)) (halfStep first (val u mu) (val v mv) (flags tf cy) c (now (m .entry)) (now (mk .entry))) ⌝ }
+    ensures { λ r. ⌜ r ≡ actOut (halfAct first (val u mu) (val v mv) (flags tf cy) c (now (m .entry)) (now (mk .entry))) c ⌝ }
+    ensures { λ _. ⌜ now (m .exit) ≡ actMem (halfAct first (val u mu) (val v mv) (flags tf cy) c (now (m .entry)) (now (mk .entry))) (val u mu) (now (m .entry)) ⌝ }
+    ensures { λ _. ⌜ now (mk .exit) ≡ actMarks (halfAct first (val u mu) (val v mv) (flags tf cy) c (now (m .entry)) (now (mk .entry))) (val u mu) (now (mk .entry)) ⌝ }
 {
     let kind = isa::kind_of((first / 256) as u8);
     let f = instruction::fetch::rest_at(kind, first, ByteAddr(c.pc), m, mk);
     match f {
-        Fetched::Stop(reply) => Out::Stop(reply),
+        Fetched::Halted(h) => Out::Halted(h),
         Fetched::Run(i) => {
             let a = instruction::classes::act_on(i, u, mu, v, mv, tf, cy, c, m, mk);
             act_step(a, u, mu, c, m, mk)

@@ -18,12 +18,14 @@ use Rattle.isa.specs.declared.Decoded.{Decoded}
 use Rattle.isa.specs.declared.Instr.{Instr}
 use Rattle.cpu.specs.Control.{pcOf}
 use Rattle.cpu.specs.Entries.{entered, fallen}
-use Rattle.cpu.specs.Exec.{moves, exec, sourcesOf}
+use Rattle.cpu.specs.Exec.{onward, moves, exec, sourcesOf}
 use Rattle.cpu.specs.declared.Control.{Control}
 use Rattle.cpu.specs.declared.Effect.{Effect}
+use Rattle.cpu.specs.declared.Entry.{Entry}
 use Rattle.instruction.specs.Fetch.{halfAt, afterHalf}
 use Rattle.instruction.specs.Act.{reachOf, outside, loadedFrom}
 use Rattle.instruction.specs.declared.Reply.{Reply}
+use Rattle.instruction.specs.declared.Halt.{Halt}
 use Rattle.instruction.specs.declared.Fetched.{Fetched}
 use Rattle.instruction.specs.declared.Reach.{Reach}
 use Rattle.machine.specs.State.{outOfForm}
@@ -44,17 +46,17 @@ valueOf s i = getD (s .regs) i 0
 -- ---- the fetch: "first half outside, .., not an instruction, second half outside, .."
 
 abbrev pub reached : ByteAddr → List ℕ → Fetched → Fetched
-reached a m x = cond (not (inside m a 2)) (Fetched.Stop Reply.FetchOutside) x
+reached a m x = cond (not (inside m a 2)) (Fetched.Halted Halt.FetchOutside) x
 
 abbrev pub decoded : Decoded → ByteAddr → List ℕ → Fetched
 decoded (Decoded.Short i) b m = Fetched.Run i
 decoded (Decoded.Long i) b m = reached b m (Fetched.Run i)
-decoded Decoded.Nothing b m = Fetched.Stop Reply.NoInstruction
+decoded Decoded.Nothing b m = Fetched.Halted Halt.NoInstruction
 
 -- "A program counter found odd inside a run answers 13, before all these"
 unfoldable pub fetch : ByteAddr → List ℕ → Fetched
 fetch a m =
-    cond (isOdd a) (Fetched.Stop Reply.NoInstruction)
+    cond (isOdd a) (Fetched.Halted Halt.NoInstruction)
     (reached a m (decoded (decodeOf (halfAt m a) (halfAt m (afterHalf a))) (afterHalf a) m))
 
 -- ---- one step
@@ -73,10 +75,22 @@ changed s e r =
       control = fallen (on (s .control .psw) 4 && not (e .wrote)) (entered (entryBy r (e .control)) (e .control));
     }
 
--- an instruction whose operands have the values x and y, and which reaches memory at r: stop 15, "load or store outside memory", or all that it does
+-- an entry, made on control part c, which reaches no register and no memory, with the timer's fall
+abbrev pub enters : Entry → Control → Core → List ℕ → Outcome
+enters e c s m = completed (changed s (moves (entered e c)) Reach.Nowhere) m
+
+-- what comes of an instruction that is not done: a bus error's entry, at the instruction's own address or at the next one (document 02, ticket 5), or a stop
+abbrev pub halts : Halt → Core → List ℕ → Outcome
+halts Halt.FetchOutside s m = enters Entry.FetchError (s .control) s m
+halts Halt.FetchMarked s m = stopped Reply.FetchMarked
+halts Halt.NoInstruction s m = stopped Reply.NoInstruction
+halts Halt.MarkedOperand s m = stopped Reply.MarkedOperand
+halts Halt.DataOutside s m = enters Entry.DataError (onward 2 (s .control)) s m
+
+-- an instruction whose operands have the values x and y, and which reaches memory at r: a bus error, or all that it does
 unfoldable pub act : Instr → ℕ → ℕ → Reach → Core → List ℕ → Outcome
 act i x y r s m =
-    cond (outside r m) (stopped Reply.DataOutside)
+    cond (outside r m) (halts Halt.DataOutside s m)
     (completed (changed s (exec i x y (loadedFrom r m) (s .control)) r) (storedTo r x m))
 
 -- its operands are read first
@@ -90,12 +104,12 @@ perform i s m =
     m
 
 abbrev pub onFetched : Fetched → Core → List ℕ → Outcome
-onFetched (Fetched.Stop r) s m = stopped r
+onFetched (Fetched.Halted h) s m = halts h s m
 onFetched (Fetched.Run i) s m = perform i s m
 
--- what is chosen: an entry, which reaches no register and no memory, with the timer's fall, or an instruction (document 01, "One step", 1 to 3)
+-- what is chosen: an entry or an instruction (document 01, "One step", 1 to 3)
 abbrev pub onEvent : Event → Core → List ℕ → Outcome
-onEvent (Event.Enter e) s m = completed (changed s (moves (entered e (s .control))) Reach.Nowhere) m
+onEvent (Event.Enter e) s m = enters e (s .control) s m
 onEvent Event.Instruction s m = onFetched (fetch (pcOf (s .control)) m) s m
 
 -- t is the tape's byte of this step

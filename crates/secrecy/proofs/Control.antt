@@ -118,6 +118,8 @@ entries s (Entry.Debug h) =
 entries s Entry.Timer = enters (pending (psw s _ _ (put-under (s .psw) 2 1 1 1 (lit≤ tt) refl)) false) 8
 entries s (Entry.External i) =
     enters (psw s _ _ (put-under (put-over (s .psw) 26 6 (lslOf 1 i) (lslOf 1 i) (lit≤ tt) refl) 1 1 1 1 (lit≤ tt) refl)) 12
+entries s Entry.FetchError = enters (psw s _ _ (put-over (s .psw) 15 1 1 1 (lit≤ tt) refl)) 16
+entries s Entry.DataError = enters (psw s _ _ (put-over (s .psw) 14 1 1 1 (lit≤ tt) refl)) 16
 
 module _ {f : Flags} {a b : Control} (s : SameControl f a b) where
   pub breaks : isBreak a ≡ isBreak b

@@ -96,9 +96,7 @@ module _ {f : Flags} {p q : ℕ} (s : SamePsw f p q) where
   pub psw-written : (v : ℕ) → pswWritten p v ≡ pswWritten q v
   unfolding pswWritten
   psw-written v =
-      ap₂ (λ (m n : ℕ). put m 26 6 n)
-      (ap₂ (λ (m n : ℕ). put m 14 2 n) (ap (λ (n : ℕ). put v 12 1 n) (field-over 12 1 (lit≤ tt))) (field-over 14 2 (lit≤ tt)))
-      (field-over 26 6 (lit≤ tt))
+      ap₂ (λ (m n : ℕ). put m 26 6 n) (ap (λ (n : ℕ). put v 12 1 n) (field-over 12 1 (lit≤ tt))) (field-over 26 6 (lit≤ tt))
 
 -- equal words differ nowhere, whatever is marked
 pub psw-like : {f : Flags} {p q : ℕ} → p ≡ q → SamePsw f p q

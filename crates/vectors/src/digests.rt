@@ -36,6 +36,8 @@ fn folded_entry(d: u64, e: Entry) -> u64 {
         Entry::Debug(hit) => folded(folded(d, 100), hit),
         Entry::Timer => folded(folded(d, 116), 0),
         Entry::External(i) => folded(folded(d, 101), i),
+        Entry::FetchError => folded(folded(d, 98), 0),
+        Entry::DataError => folded(folded(d, 98), 0),
     }
 }
 

@@ -15,15 +15,9 @@ field-requires-2 c κs = search needs
 with-field-requires-2 : tie.Need-with-field-requires-2
 with-field-requires-2 c κs = search needs
 
-field-requires-3 : tie.Need-field-requires-3
-field-requires-3 c κs = search needs
-
-with-field-requires-3 : tie.Need-with-field-requires-3
-with-field-requires-3 c κs = search needs
-
 returns : tie.Need-returns
 unfolding pswWritten
-returns c = rw (c .with-field3 .ensures, c .before .field3 .ensures, c .before .before .with-field2 .ensures, c .before .before .before .field2 .ensures, c .before .before .before .before .with-field .ensures, c .before .before .before .before .before .field .ensures)
+returns c = rw (c .with-field2 .ensures, c .before .field2 .ensures, c .before .before .with-field .ensures, c .before .before .before .field .ensures)
 
 pub keep-psw-spec : {M : Type 1} → statement M
 keep-psw-spec =
@@ -33,6 +27,4 @@ keep-psw-spec =
     with-field-requires
     field-requires-2
     with-field-requires-2
-    field-requires-3
-    with-field-requires-3
     returns)

@@ -1,4 +1,4 @@
-use Rattle.machine.specs.Parts.{halfStep}
+use Rattle.machine.specs.Parts.{halfAct}
 use mathlib.Core.Path.{refl}
 use borrow.Author.Needs.{needs}
 use Rattle.machine.proofs.step.half_step.Statement.{statement}
@@ -32,7 +32,7 @@ same-length-2 : tie.Need-same-length-2
 same-length-2 c = search needs
 
 returns : tie.Need-returns
-unfolding halfStep
+unfolding halfAct
 returns c = rw (← (c .before .before .before .before .before .before .kind-of .ensures), ← (c .before .before .before .rest-at .ensures), c .before .f .given .1) (refl, (refl, refl))
 
 same-length-3 : tie.Need-same-length-3
@@ -42,7 +42,7 @@ same-length-4 : tie.Need-same-length-4
 same-length-4 c = search needs
 
 returns-2 : tie.Need-returns-2
-unfolding halfStep
+unfolding halfAct
 returns-2 c =
     rw (← (c .before .before .before .before .before .before .before .before .before .before .before .before .before .before .before .before .kind-of .ensures), ← (c .before .before .before .before .before .before .before .before .before .before .before .before .before .rest-at .ensures), c .before .before .before .before .before .before .before .before .before .before .before .f2 .given .1)
     (rw (c .before .before .before .before .before .before .before .act-on .ensures) at (c .before .before .before .before .act-step .ensures))
