@@ -18,9 +18,9 @@ use Rattle.isa.specs.declared.AluOp.{AluOp}
 use Rattle.isa.specs.declared.ShortOp.{ShortOp}
 use Rattle.isa.specs.declared.LongOp.{LongOp}
 use Rattle.isa.specs.declared.Instr.{Instr}
-use Rattle.cpu.specs.Control.{pcOf, withPc, withSfr, withPsw, withHwdbg, withPending, withTimer, withTf, tf, cy, sfrOf}
+use Rattle.cpu.specs.Control.{pcOf, withPc, withSfr, withPsw, withHwdbg, withPending, withTimer, withCycles, withTf, tf, cy, wants, sfrOf}
 use Rattle.cpu.specs.Entries.{vector, enter, entered, fallen}
-use Rattle.cpu.specs.Exec.{onward, goTo, linked, jump, wants, branch, shortJump, longJump, carried, cmpOf, cmpImmOf, accepted, timerWritten, pswWritten, written, leave, moves, exec, sourcesOf}
+use Rattle.cpu.specs.Exec.{onward, goTo, linked, jump, branch, shortJump, longJump, carried, cmpOf, cmpImmOf, accepted, timerWritten, pswWritten, written, leave, moves, exec, sourcesOf}
 use Rattle.cpu.specs.declared.Control.{Control}
 use Rattle.cpu.specs.declared.Effect.{Effect}
 use Rattle.cpu.specs.declared.Entry.{Entry}

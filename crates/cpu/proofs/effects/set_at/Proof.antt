@@ -1,0 +1,15 @@
+use borrow.Author.Needs.{needs}
+use Rattle.cpu.proofs.effects.set_at.Statement.{statement}
+use Rattle.cpu.proofs.effects.set_at.Tie as tie
+use Rattle.cpu.proofs.effects.set_at.Reads as reads
+use Rattle.cpu.proofs.effects.set_at.Lts as lts
+use Rattle.cpu.proofs.effects.go_on.Reads as go-on-reads
+
+go-on-requires : tie.Need-go-on-requires
+go-on-requires c κs = search needs
+
+returns : tie.Need-returns
+returns c = ?
+
+pub set-at-spec : {M : Type 1} → statement M
+set-at-spec = tie.close (tie.spec go-on-requires returns)
