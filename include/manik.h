@@ -3,8 +3,8 @@
  *
  * tools/library makes the library for x86-64 Linux, three archives in target/staticlib: libabi.a has manik_run, libabi_list.a has
  * manik_list, and libabi_asm.a has manik_assemble. docs/HOSTS.md shows programs with it. It needs nothing but itself, and
- * libabi_asm.a the C library's memset: it calls no other function, keeps nothing between calls, and reads and writes only what a
- * call lends it.
+ * libabi_asm.a the C library's memset and memcpy: it calls no other function, keeps nothing between calls, and reads and writes
+ * only what a call lends it.
  * So calls on different buffers may run in different threads at the same time.
  *
  * "The rules" below are document 01's, which docs/MANIK.md restates. What manik_run answers is the definition `called` of
@@ -49,11 +49,9 @@ enum manik_reply {
     MANIK_TAPE_LENGTH = 5,     /* tape shorter than the budget */
     MANIK_TAPE_BYTE = 6,       /* a byte above 63 among the first "budget" tape bytes */
     MANIK_BUDGET = 10,         /* budget used up */
-    MANIK_FETCH_OUTSIDE = 11,  /* instruction fetch outside memory */
     MANIK_FETCH_MARKED = 12,   /* instruction fetch from a marked byte */
     MANIK_NO_INSTRUCTION = 13, /* bits that are no instruction */
-    MANIK_MARKED_OPERAND = 14, /* a marked operand where none may be */
-    MANIK_DATA_OUTSIDE = 15    /* load or store outside memory */
+    MANIK_MARKED_OPERAND = 14  /* a marked operand where none may be */
 };
 
 /*
@@ -70,8 +68,11 @@ enum manik_reply {
  *   0         `state` has another length than 160, a mark or flag byte above 1, or a byte that is not zero where zero stands.
  *             *steps is 0, and nothing else changes.
  *   1 to 6    the run was refused. *steps is 0, and nothing else changes.
- *   10 to 15  the run ended. *steps, state, mem and marks are what the completed steps made; the step that stopped changed
+ *   10 to 14  the run ended. *steps, state, mem and marks are what the completed steps made; the step that stopped changed
  *             nothing. The record is one that the next call takes.
+ *
+ * There is no 11: an access outside memory does not end a run. It is a bus error, an entry at IBASE with low byte 16, and its
+ * step is completed.
  *
  * The caller sees to what no contract can say in C: every pointer is valid for its length and not null, even where the length
  * is 0; `steps` is aligned; state, mem, marks and *steps overlap neither each other nor the tape.

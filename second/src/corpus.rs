@@ -25,7 +25,7 @@ use crate::record;
 use crate::reply::Reply;
 use crate::run::{run, Outcome};
 use crate::state::State;
-use crate::step::step;
+use crate::step::{step, Access};
 
 /// The number of generated cases, and the seed that they come from.
 const GENERATED: u32 = 2_500;
@@ -44,9 +44,20 @@ pub struct Case {
     pub marks: Vec<u8>,
     pub tape: Vec<u8>,
     pub budget: u32,
-    /// The reply's number and the steps that the documents say; none for a generated case. It is
-    /// no part of the file: it holds an edge to what its name says.
-    pub promise: Option<(u32, u64)>,
+    /// What the documents say of it; none for a generated case. It is no part of the file: it
+    /// holds an edge to what its name says.
+    pub promise: Option<Promise>,
+}
+
+/// What the documents say of a run.
+#[derive(Clone, Copy, Debug, PartialEq)]
+pub struct Promise {
+    /// The reply's number.
+    pub reply: u32,
+    /// The completed steps.
+    pub steps: u64,
+    /// The bus error of the last completed step, if it makes one.
+    pub bus_error: Option<Access>,
 }
 
 impl Case {
@@ -116,7 +127,7 @@ pub fn answers_file() -> String {
 }
 
 /// Every reply in the order of its number.
-const REPLIES: [Reply; 12] = [
+const REPLIES: [Reply; 10] = [
     Reply::MemoryLength,
     Reply::MarkLength,
     Reply::MarkByte,
@@ -124,9 +135,7 @@ const REPLIES: [Reply; 12] = [
     Reply::TapeLength,
     Reply::TapeByte,
     Reply::BudgetUsed,
-    Reply::FetchOutside,
     Reply::FetchMarked,
     Reply::NoInstruction,
     Reply::OperandMarked,
-    Reply::DataOutside,
 ];

@@ -13,6 +13,10 @@ pub(crate) enum Effect {
     Nothing,
     /// It loaded or stored at this address, which the watchpoints are compared with.
     Data(u32),
+    /// A half of it is outside memory, and nothing is done.
+    FetchOutside,
+    /// It would load or store at this address, outside memory, and does nothing but go on.
+    DataOutside(u32),
     /// It is a swint with these four bits.
     Swint(u32),
     /// It wrote TIMER, and the write was accepted.
@@ -33,22 +37,32 @@ pub(crate) fn instruction(
     marks: &mut [u8],
 ) -> Result<Effect, Reply> {
     let mut memory = Memory { bytes: memory, marks };
-    let instr = fetch(state.pc, &memory)?;
-    execute(instr, state, &mut memory)
+    match fetch(state.pc, &memory) {
+        Ok(instr) => execute(instr, state, &mut memory),
+        Err(Unfetched::Outside) => Ok(Effect::FetchOutside),
+        Err(Unfetched::Stops(reply)) => Err(reply),
+    }
+}
+
+/// Why there is no instruction.
+enum Unfetched {
+    /// A half of it is outside memory.
+    Outside,
+    Stops(Reply),
 }
 
 /// The instruction at `pc`. "A program counter found odd inside a run answers 13, before all
 /// these."
 #[inline]
-fn fetch(pc: u32, memory: &Memory) -> Result<Instr, Reply> {
+fn fetch(pc: u32, memory: &Memory) -> Result<Instr, Unfetched> {
     if pc & 1 != 0 {
-        return Err(Reply::NoInstruction);
+        return Err(Unfetched::Stops(Reply::NoInstruction));
     }
     let first = memory.half(pc)?;
     // A half that needs a second one begins an instruction whatever that is, so stop 13 still
-    // comes before the stops of the second half.
+    // comes before what the second half brings.
     let second = if needs_second(first) { memory.half(pc.wrapping_add(2))? } else { 0 };
-    decode(first, second).ok_or(Reply::NoInstruction)
+    decode(first, second).ok_or(Unfetched::Stops(Reply::NoInstruction))
 }
 
 /// Does one instruction, or stops and changes nothing.
@@ -68,15 +82,16 @@ fn execute(instr: Instr, state: &mut State, memory: &mut Memory) -> Result<Effec
         Instr::Conditional { tf, op, rd, rb } => conditional(state, tf, op, rd, rb),
         Instr::ConditionalAddImmediate { tf, rd, simm4 } => conditional_add(state, tf, rd, simm4),
         Instr::Load { width, rd, uimm4, rb } => {
-            effect = Effect::Data(load(state, memory, rd, state.unmarked(rb)?, uimm4, width)?);
+            let address = data_address(state.unmarked(rb)?, uimm4, width);
+            effect = load(state, memory, rd, address, width);
         }
         Instr::Store { width, rd, uimm4, rb } => {
             let address = data_address(state.unmarked(rb)?, uimm4, width);
-            memory.store(address, width, state.register(rd))?;
-            effect = Effect::Data(address);
+            effect = store(state, memory, rd, address, width);
         }
         Instr::Ldrpc { rd, uimm8 } => {
-            effect = Effect::Data(load(state, memory, rd, state.pc, uimm8, Width::Word)?);
+            let address = data_address(state.pc, uimm8, Width::Word);
+            effect = load(state, memory, rd, address, Width::Word);
         }
         Instr::Mfsfr { rd, sfr } => read_sfr(state, rd, sfr),
         Instr::Mtsfr { sfr, rb } => effect = write_sfr(state, sfr, state.unmarked(rb)?),
@@ -188,20 +203,24 @@ fn conditional_add(state: &mut State, tf: bool, rd: u32, simm4: u32) {
     state.set_if(tf, rd, Register { value: value.wrapping_add(simm4), marked });
 }
 
-/// Loads Rd from so many units behind a base, and answers the address.
+/// Loads Rd from an aligned address.
 #[inline]
-fn load(
-    state: &mut State,
-    memory: &Memory,
-    rd: u32,
-    base: u32,
-    units: u32,
-    width: Width,
-) -> Result<u32, Reply> {
-    let address = data_address(base, units, width);
-    let Register { value, marked } = memory.load(address, width)?;
+fn load(state: &mut State, memory: &Memory, rd: u32, address: u32, width: Width) -> Effect {
+    let Some(Register { value, marked }) = memory.load(address, width) else {
+        return Effect::DataOutside(address);
+    };
     state.set(rd, value, marked);
-    Ok(address)
+    Effect::Data(address)
+}
+
+/// Stores Rd at an aligned address.
+#[inline]
+fn store(state: &State, memory: &mut Memory, rd: u32, address: u32, width: Width) -> Effect {
+    if memory.store(address, width, state.register(rd)) {
+        Effect::Data(address)
+    } else {
+        Effect::DataOutside(address)
+    }
 }
 
 /// mfsfr. "mfsfr psw is marked if TF or CY is; other mfsfr results are not."
@@ -211,8 +230,9 @@ fn read_sfr(state: &mut State, rd: u32, number: u32) {
     state.set(rd, state.sfr(number), marked);
 }
 
-/// The bits that mtsfr psw keeps: 12, 14, 15 and 26 to 31.
-const PSW_KEPT: u32 = psw::TR | psw::BUS_ERRORS | psw::STATUS;
+/// The bits that mtsfr psw keeps: 12 and 26 to 31. "mtsfr psw may now write bits 14 and 15"
+/// (document 02, ticket 5).
+const PSW_KEPT: u32 = psw::TR | psw::STATUS;
 
 /// mtsfr. "Writes take effect at once."
 #[inline]
@@ -296,29 +316,28 @@ fn taken(state: &State, when: When) -> Result<bool, Reply> {
 impl Memory<'_> {
     /// Half an instruction.
     #[inline(always)]
-    fn half(&self, address: u32) -> Result<u16, Reply> {
-        let half = word::load(self.bytes, address, Width::Half).ok_or(Reply::FetchOutside)?;
+    fn half(&self, address: u32) -> Result<u16, Unfetched> {
+        let half = word::load(self.bytes, address, Width::Half).ok_or(Unfetched::Outside)?;
         if self.any_marked(address, Width::Half) {
-            return Err(Reply::FetchMarked);
+            return Err(Unfetched::Stops(Reply::FetchMarked));
         }
         Ok(half as u16)
     }
 
-    /// What is loaded from an aligned address: marked if any byte is.
+    /// What is loaded from an aligned address: marked if any byte is. None if it is outside.
     #[inline]
-    fn load(&self, address: u32, width: Width) -> Result<Register, Reply> {
-        let value = word::load(self.bytes, address, width).ok_or(Reply::DataOutside)?;
-        Ok(Register { value, marked: self.any_marked(address, width) })
+    fn load(&self, address: u32, width: Width) -> Option<Register> {
+        let value = word::load(self.bytes, address, width)?;
+        Some(Register { value, marked: self.any_marked(address, width) })
     }
 
     /// Stores at an aligned address. "A stored byte takes the register's mark, so an unmarked
-    /// store clears one."
+    /// store clears one." If it is outside, the answer is false and nothing changes.
     #[inline]
-    fn store(&mut self, address: u32, width: Width, register: Register) -> Result<(), Reply> {
+    fn store(&mut self, address: u32, width: Width, register: Register) -> bool {
         let mark_bytes = if register.marked { 0x0101_0101 } else { 0 };
-        let inside = word::store(self.bytes, address, width, register.value)
-            && word::store(self.marks, address, width, mark_bytes);
-        inside.then_some(()).ok_or(Reply::DataOutside)
+        word::store(self.bytes, address, width, register.value)
+            && word::store(self.marks, address, width, mark_bytes)
     }
 
     /// Whether any byte of an access is marked. Mark bytes are 0 or 1.

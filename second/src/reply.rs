@@ -1,4 +1,5 @@
-//! Replies of a run (document 01).
+//! Replies of a run (document 01). Its 11 and 15 are no longer given: what they told of is a bus
+//! error (document 02, ticket 5).
 
 /// A reply. Its number is document 01's.
 #[derive(Clone, Copy, Debug, PartialEq, Eq, Hash)]
@@ -17,16 +18,12 @@ pub enum Reply {
     TapeByte = 6,
     /// Budget used up.
     BudgetUsed = 10,
-    /// Instruction fetch outside memory.
-    FetchOutside = 11,
     /// Instruction fetch from a marked byte.
     FetchMarked = 12,
     /// Bits that are no instruction.
     NoInstruction = 13,
     /// A marked operand where none may be.
     OperandMarked = 14,
-    /// Load or store outside memory.
-    DataOutside = 15,
 }
 
 impl Reply {

@@ -22,8 +22,10 @@ pub mod psw {
     pub const CY: u32 = 1 << 9;
     /// Timer reload or underflow: counter mode, which isn't built. Clear in every state in form.
     pub const TR: u32 = 1 << 12;
-    /// Bus error flags of data and of instructions.
-    pub const BUS_ERRORS: u32 = 1 << 14 | 1 << 15;
+    /// Data bus error.
+    pub const DBER: u32 = 1 << 14;
+    /// Instruction bus error.
+    pub const IBER: u32 = 1 << 15;
     /// The lowest of bits 19:16, which hold the four bits of swint.
     pub const SWI_SHIFT: u32 = 16;
     /// Bits 19:16.

@@ -1,5 +1,5 @@
 //! One step (document 01): an interrupt, else a breakpoint, else one instruction with its
-//! watchpoint; then the timer's fall.
+//! watchpoint or its bus error (document 02, ticket 5); then the timer's fall.
 
 use crate::execute::{instruction, Effect};
 use crate::reply::Reply;
@@ -17,6 +17,17 @@ pub enum Entry {
     Timer,
     /// By an external line, with its number, 0 to 5; PSW 31:26 show it alone.
     External(u32),
+    /// By an access outside memory; the access's own bit of PSW shows it.
+    BusError(Access),
+}
+
+/// What an access outside memory was for.
+#[derive(Clone, Copy, Debug, PartialEq, Eq, Hash)]
+pub enum Access {
+    /// An instruction: bit 15.
+    Fetch,
+    /// A load or store (ldrpc too): bit 14.
+    Data,
 }
 
 impl Entry {
@@ -26,6 +37,7 @@ impl Entry {
             Entry::Swint(_) | Entry::Debug(_) => 4,
             Entry::Timer => 8,
             Entry::External(_) => 12,
+            Entry::BusError(_) => 16,
         }
     }
 }
@@ -38,7 +50,7 @@ pub struct Step {
     pub pc: u32,
     /// The entry that was made.
     pub entry: Option<Entry>,
-    /// The address, after alignment, of a load or store (ldrpc too).
+    /// The address, after alignment, of a load or store (ldrpc too), "a data bus error's too".
     pub address: Option<u32>,
 }
 
@@ -64,6 +76,11 @@ pub fn step(
             Effect::Data(address) => {
                 step.address = Some(address);
                 step.entry = watch(state, address);
+            }
+            Effect::FetchOutside => step.entry = Some(enter_bus_error(state, Access::Fetch)),
+            Effect::DataOutside(address) => {
+                step.address = Some(address);
+                step.entry = Some(enter_bus_error(state, Access::Data));
             }
             Effect::Swint(code) => step.entry = Some(enter_swint(state, code)),
             // "takes the place of that step's fall"
@@ -123,7 +140,8 @@ fn watch(state: &mut State, address: u32) -> Option<Entry> {
     (hits != 0).then(|| enter_debug(state, hits))
 }
 
-/// What all entries have in common. The program counter is that of the instruction not yet done.
+/// What all entries have in common. The program counter is that of the instruction not yet done;
+/// behind a load or store outside memory, that of the next one.
 fn enter(state: &mut State, entry: Entry) -> Entry {
     state.ipc = state.pc;
     let bip = if state.psw & psw::IP != 0 { psw::BIP } else { 0 };
@@ -164,6 +182,17 @@ fn enter_debug(state: &mut State, hits: u32) -> Entry {
     state.psw = state.psw & !psw::SW | psw::SWI;
     state.hwdbg = state.hwdbg & !hwdbg::HITS | hits;
     enter(state, Entry::Debug(hits))
+}
+
+/// "On a fetch, PSW bit 15 is set and IPC is the instruction's own address; on data, bit 14 is set,
+/// IPC is the next instruction" (document 02, ticket 5). The other bit stays as it is.
+#[cold]
+fn enter_bus_error(state: &mut State, access: Access) -> Entry {
+    state.psw |= match access {
+        Access::Fetch => psw::IBER,
+        Access::Data => psw::DBER,
+    };
+    enter(state, Entry::BusError(access))
 }
 
 /// "If ... TIMER isn't 0, TIMER falls by 1; reaching 0 sets pending. ... Zero stays zero."

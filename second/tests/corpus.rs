@@ -6,12 +6,13 @@ use std::fs;
 use std::path::PathBuf;
 
 use second::corpus::{
-    answers_file, cases, cases_file, coverage, digest, edges, random, trace_line, Case, TraceLine,
-    LONGEST_MEMORY, LONGEST_TAPE,
+    answers_file, cases, cases_file, coverage, digest, edges, random, trace_line, Case, Promise,
+    TraceLine, LONGEST_MEMORY, LONGEST_TAPE,
 };
 use second::record;
 use second::run::{run_observed, Outcome};
 use second::state::State;
+use second::step::Access;
 
 /// The bytes of a stored file; if it is missing, the message tells how to write it.
 fn stored(name: &str, subcommand: &str) -> Vec<u8> {
@@ -114,11 +115,22 @@ fn the_stored_cases_read_back_give_the_stored_answers() {
     assert!(stored("stdout", "corpus-answers") == answers.as_bytes());
 }
 
+/// The bus error that a line of a trace shows.
+fn bus_error(line: &TraceLine) -> Option<Access> {
+    match (line[4], line[6]) {
+        (b'b', 0) => Some(Access::Fetch),
+        (b'b', _) => Some(Access::Data),
+        _ => None,
+    }
+}
+
 #[test]
 fn the_edges_do_what_their_names_say() {
     for edge in edges() {
         let (outcome, after) = edge.run();
-        let answer = (outcome.reply.number(), outcome.steps);
+        let (reply, steps) = (outcome.reply.number(), outcome.steps);
+        let bus_error = edge.trace(steps).last().and_then(bus_error);
+        let answer = Promise { reply, steps, bus_error };
         assert!(edge.promise.is_none_or(|promise| promise == answer), "{}: {answer:?}", edge.name);
         if outcome.steps == 0 {
             assert_eq!(after.bytes(), edge.bytes(), "{}", edge.name);
@@ -191,7 +203,7 @@ fn the_traces_have_every_entry_with_all_that_it_can_show() {
     let shown: HashSet<(char, u8)> = lines.map(|line| (line[4].into(), line[5])).collect();
     let swint = (0..16).map(|bits| ('s', bits));
     let external = (0..6).map(|line| ('e', line));
-    let others = [('-', 0), ('d', 1), ('d', 2), ('d', 4), ('d', 6), ('t', 0)];
+    let others = [('-', 0), ('d', 1), ('d', 2), ('d', 4), ('d', 6), ('t', 0), ('b', 0)];
     assert_eq!(shown, swint.chain(external).chain(others).collect());
 }
 
@@ -213,13 +225,13 @@ fn no_line_of_the_coverage_is_zero() {
         assert!(*count > 0, "no {kind} {name}");
     }
     let of = |kind| coverage.lines.iter().filter(|line| line.0 == kind).count();
-    assert_eq!((of("step"), of("reply"), of("entry")), (59, 12, 5));
+    assert_eq!((of("step"), of("reply"), of("entry")), (59, 10, 7));
 }
 
 #[test]
 fn the_file_of_cases_stays_small() {
     let length = cases_file().len();
-    assert!(length < 1_500_000, "{length} bytes");
+    assert!(length < 1_600_000, "{length} bytes");
 }
 
 /// By hand: 1, then 1 * 1000003 + 5, then that * 1000003 + 255 less 232 times 4294967291.

@@ -34,13 +34,24 @@ fn the_whole_example() {
 #[test]
 fn the_end_line_has_reply_and_steps_of_every_stop() {
     assert_answer("mem 4\nrun 0\n", "end 10 0\npc 00000000\n");
-    assert_answer("mem 4\nat 00000000 70107010\nrun 9\n", "end 11 2\npc 00000004\n");
     assert_answer("mem 4\nmark 00000001 1\nrun 9\n", "end 12 0\npc 00000000\n");
     assert_answer("mem 4\nrun 9\n", "end 13 0\npc 00000000\n");
     // ldr r1 from 4, which is marked; jr r1.
     let marked = "mem 8\nat 00000000 81101c01\nmark 00000007 1\nrun 9\n";
     assert_answer(marked, "end 14 1\npc 00000002\nr1 ********\n");
-    assert_answer("mem 4\nat 00000000 8110\nrun 9\n", "end 15 0\npc 00000000\n");
+}
+
+/// IBASE is 0, so bus errors go to 16, which is outside a memory of 4 bytes (document 02, ticket 5).
+#[test]
+fn an_access_outside_memory_is_an_entry() {
+    let fetch = "mem 4\nat 00000000 70107010\nrun ";
+    assert_answer(&format!("{fetch}2\n"), "end 10 2\npc 00000004\n");
+    assert_answer(&format!("{fetch}3\n"), "end 10 3\npc 00000010\n");
+    assert_answer(&format!("{fetch}9\n"), "end 10 9\npc 00000010\n");
+    // ldr r1 from 4; in a longer memory the handler is movi r2,1.
+    assert_answer("mem 4\nat 00000000 8110\nrun 1\n", "end 10 1\npc 00000010\n");
+    let handled = "mem 20\nat 00000000 8510\nat 00000010 7021\nrun 2\n";
+    assert_answer(handled, "end 10 2\npc 00000012\nr2 00000001\n");
 }
 
 #[test]

@@ -13,18 +13,38 @@ use lib.Seq.{take-suc, length-take-le, take-set-le, lt-length-set, getD-set-same
 use borrow.Author.Tests.{ltb-true, ltb-false}
 use Rattle.word.specs.Addresses.{byteSum}
 use Rattle.word.specs.declared.ByteAddr.{ByteAddr}
-use Rattle.expr.specs.Expr.{Labels, labels}
+use Rattle.expr.specs.Expr.{Labels, labels, valueOf}
 use Rattle.expr.specs.declared.Read.{Read as Valued}
 use Rattle.expr.specs.declared.Value.{Value}
 use Rattle.text.specs.Pages.{Page, writeOn}
 use Rattle.text.proofs.Pages.{write-append}
+use Rattle.forms.specs.declared.Sort.{Sort}
 use Rattle.forms.specs.declared.What.{What}
 use Rattle.asm.specs.declared.Refusal.{Refusal}
 use Rattle.asm.specs.declared.Checked.{Checked}
 use Rattle.asm.specs.declared.Assembled.{Assembled}
-use Rattle.forms.specs.Form.{bodyOf, linesOf, whatIn, shapeOf, isKnownAs, isKnown}
-use Rattle.asm.specs.Parts.{allKnown, checkSure}
-use Rattle.asm.specs.Assemble.{isSet, hasRoom, isNew, withName, withLabel, labelFor, bytesFor, labelsOf, addressOf, labelIn, lineValue, lineBits, before, refusedIf, labelCheck, fitCheck, valueCheck, lineCheck, roomCheck, verdictOf, lineBytes, codeOf, isOutside}
+use Rattle.forms.specs.Form.{bodyOf, fieldAt, linesOf, whatIn, shapeOf, isKnownAs, isKnown}
+use Rattle.asm.specs.Parts.{takesSum, checkBy, allKnown, checkSure}
+use Rattle.asm.specs.Assemble.{isSet, hasRoom, isNew, withName, withLabel, labelFor, bytesFor, labelsOf, addressOf, labelIn, sumAt, lineValue, lineBits, before, refusedIf, labelCheck, fitCheck, valueCheck, lineCheck, roomCheck, verdictOf, lineBytes, codeOf, isOutside}
+
+-- ---- a line by its fields
+
+pub sum-by : (t : Labels) (s : Sort) (f : List ℕ) (o : Valued) → sumAt t s f o ≡ cond (takesSum s) (valueOf t f) o
+unfolding sumAt
+sum-by t Sort.Nothing f o = refl
+sum-by t Sort.Never f o = refl
+sum-by t Sort.Reg f o = refl
+sum-by t Sort.Sfr f o = refl
+sum-by t Sort.LowSfr f o = refl
+sum-by t Sort.Sum f o = refl
+
+pub check-by : (w : What) (a : ByteAddr) (b : List ℕ) (l r : Checked) (v : Valued)
+    → checkBy w (shapeOf w) a (fieldAt 2 b) (fieldAt 3 b) (fieldAt 4 b) l r v ≡ valueCheck w a b l r v
+unfolding checkBy valueCheck lineBits
+check-by w a b l r (Valued.Not e) = refl
+check-by w a b l r (Valued.Got Value.Unknown n) = refl
+check-by w a b l r (Valued.Got Value.Large n) = refl
+check-by w a b l r (Valued.Got (Value.Is z) n) = refl
 
 -- ---- labels: one more after the first n
 
@@ -151,12 +171,12 @@ verdict-stops s r l z t w p n m i j c x e f g h q d =
     let u : lineCheck t z (addressOf p) (roomCheck p (shapeOf (whatIn l) .size) m) (whatIn l) l ≡ Checked.Not x = rw (← f, ← g, ← h) q in
     rw (e, u, d)
 
-pub code-on : (s r l : List ℕ) (t : Labels) (a b : ByteAddr) (w : What) (n : ℕ) (p q : Page)
-    → linesOf s ≡ l ∷ linesOf r → w ≡ whatIn l → n ≡ bytesFor true w → b ≡ byteSum a n → q ≡ writeOn (lineBytes t a w l) p
+pub code-on : (s r l d : List ℕ) (t : Labels) (a b : ByteAddr) (w : What) (n : ℕ) (p q : Page)
+    → linesOf s ≡ l ∷ linesOf r → w ≡ whatIn l → n ≡ bytesFor true w → b ≡ byteSum a n → d ≡ lineBytes t a w l → q ≡ writeOn d p
     → writeOn (codeOf t b (linesOf r)) q ≡ writeOn (codeOf t a (linesOf s)) p
 unfolding codeOf bytesFor
-code-on s r l t a b w n p q e f g h k =
-    rw (e, k, h, g, f) (sym (write-append (lineBytes t a (whatIn l) l) (codeOf t (byteSum a (shapeOf (whatIn l) .size)) (linesOf r)) p))
+code-on s r l d t a b w n p q e f g h i k =
+    rw (e, k, i, h, g, f) (sym (write-append (lineBytes t a (whatIn l) l) (codeOf t (byteSum a (shapeOf (whatIn l) .size)) (linesOf r)) p))
 
 -- lines of known form
 and-assoc : (a b c : Bool) → ((a && b) && c) ≡ (a && (b && c))

@@ -1,76 +1,126 @@
 // A line of known form: its value, its bits, and what is wrong with it first.
 ghost use mathlib.Core.Path.{_≡_};
 ghost use mathlib.Core.Bool.{_||_};
-ghost use Prim.Native.Nat.{_≤_};
+ghost use Prim.Native.Nat.{_-_, _≤_};
+ghost use lib.Dec.{eqb};
+ghost use lib.ListN.{length, getD, take, drop};
 ghost use Rattle.expr.specs.Expr.{labels};
-ghost use Rattle.forms.specs.Form.{isKnownAs};
-ghost use Rattle.asm.specs.Parts.{checkSure};
-ghost use Rattle.asm.specs.Assemble.{sumAt, lineValue, lineBits, labelIn, before, labelCheck, fitCheck, roomCheck, valueCheck, valueIn};
+ghost use Rattle.forms.specs.Form.{bodyOf, tabsIn, whatIn, isKnownAs};
+ghost use Rattle.forms.specs.Parts.{firstLine, cutOf, slots};
+ghost use Rattle.forms.specs.Says.{bytesIn};
+ghost use Rattle.asm.specs.Parts.{takesSum, valueBy, bitsBy, checkBy, checkSure};
+ghost use Rattle.asm.specs.Assemble.{labelIn, before, labelCheck, fitCheck, roomCheck, valueIn, lineBytes};
 use crate::Checked;
 use crate::Refusal;
 use expr::Read;
 use expr::Value;
+use forms::Cut;
 use forms::Shape;
 use forms::Sort;
 use forms::What;
 use forms::bits_at;
 use forms::bits_of;
-use forms::body;
-use forms::is_known_as;
+use forms::is_known;
 use forms::number_at;
 use forms::shape_of;
+use forms::tabs_in;
+use forms::what_of;
 use isa::Encoded;
 use word::ByteAddr;
 
-fn sum_at(s: Sort, field: &[u8], keys: &[u64], places: &[u32], other: Read) -> Read
-    ensures { λ r. ⌜ r ≡ sumAt (labels (now (keys .entry)) (now (places .entry))) s (now (field .entry)) other ⌝ }
+// A part of the text that begins with a line.
+fn part(s: &[u8], from: usize, to: usize) -> &[u8]
+    requires { ⌜ (from ≤ to) × (to ≤ length (now s)) ⌝ }
+    ensures { λ r. ⌜ now r ≡ take (to - from) (drop from (now (s .entry))) ⌝ }
+{
+    &s[from..to]
+}
+
+// What the first line of s names, whose fields stand at c.
+pub fn what_in(s: &[u8], c: Cut, table: &[u64; 312]) -> What
+    requires { ⌜ (c ≡ cutOf (now s)) × (now table ≡ slots) ⌝ }
+    ensures { λ r. ⌜ r ≡ whatIn (firstLine (now (s .entry))) ⌝ }
+{
+    what_of(part(s, c.from1, c.to1), table)
+}
+
+// The number of the line's own label.
+pub fn label_in(s: &[u8], c: Cut) -> u64
+    requires { ⌜ c ≡ cutOf (now s) ⌝ }
+    ensures { λ r. ⌜ r ≡ labelIn (firstLine (now (s .entry))) ⌝ }
+{
+    expr::label(part(s, 0, c.to0))
+}
+
+fn tabs(s: &[u8], c: Cut) -> usize
+    requires { ⌜ c ≡ cutOf (now s) ⌝ }
+    ensures { λ r. ⌜ r ≡ tabsIn (bodyOf (firstLine (now (s .entry)))) ⌝ }
+{
+    let more = tabs_in(part(s, c.from4, c.end));
+    c.from1 - c.to0 + (c.from2 - c.to1) + (c.from3 - c.to2) + (c.from4 - c.to3) + more
+}
+
+fn is_newline(s: &[u8], at: usize) -> bool
+    ensures { λ r. ⌜ r ≡ eqb (getD (now (s .entry)) at 0) 10 ⌝ }
+{
+    if at < s.len() {
+        return s[at] == 10;
+    }
+    false
+}
+
+pub fn is_known_as(w: What, s: &[u8], c: Cut) -> bool
+    requires { ⌜ c ≡ cutOf (now s) ⌝ }
+    ensures { λ r. ⌜ r ≡ isKnownAs w (firstLine (now (s .entry))) ⌝ }
+{
+    if is_newline(s, c.end) {
+        let label = part(s, 0, c.to0);
+        let x = part(s, c.from2, c.to2);
+        let y = part(s, c.from3, c.to3);
+        let z = part(s, c.from4, c.to4);
+        return is_known(shape_of(w), tabs(s, c), label, x, y, z);
+    }
+    false
+}
+
+fn takes_sum(s: Sort) -> bool
+    ensures { λ r. ⌜ r ≡ takesSum s ⌝ }
 {
     match s {
-        Sort::Nothing => other,
-        Sort::Never => other,
-        Sort::Reg => other,
-        Sort::Sfr => other,
-        Sort::LowSfr => other,
-        Sort::Sum => expr::evaluate(field, keys, places),
+        Sort::Nothing => false,
+        Sort::Never => false,
+        Sort::Reg => false,
+        Sort::Sfr => false,
+        Sort::LowSfr => false,
+        Sort::Sum => true,
     }
 }
 
-pub fn line_value(s: Shape, b: &[u8], keys: &[u64], places: &[u32]) -> Read
-    ensures { λ r. ⌜ r ≡ lineValue (labels (now (keys .entry)) (now (places .entry))) s (now (b .entry)) ⌝ }
+// The value of the expression among two fields.
+pub fn line_value(s: Shape, x: &[u8], y: &[u8], keys: &[u64], places: &[u32]) -> Read
+    ensures { λ r. ⌜ r ≡ valueBy (labels (now (keys .entry)) (now (places .entry))) s (now (x .entry)) (now (y .entry)) ⌝ }
 {
     let first = s.first;
+    if takes_sum(first) {
+        return expr::evaluate(x, keys, places);
+    }
     let second = s.second;
-    let rest = text::beyond(text::beyond(b));
-    let other = sum_at(
-        second,
-        text::before(text::beyond(rest)),
-        keys,
-        places,
-        Read::Got(Value::Is(0), 0),
-    );
-    sum_at(first, text::before(rest), keys, places, other)
+    if takes_sum(second) {
+        return expr::evaluate(y, keys, places);
+    }
+    Read::Got(Value::Is(0), 0)
 }
 
-pub fn line_bits(w: What, at: ByteAddr, b: &[u8], v: i32) -> Encoded
-    ensures { λ r. ⌜ r ≡ lineBits w at (now (b .entry)) v ⌝ }
+pub fn line_bits(w: What, s: Shape, at: ByteAddr, x: &[u8], y: &[u8], z: &[u8], v: i32) -> Encoded
+    ensures { λ r. ⌜ r ≡ bitsBy w s at (now (x .entry)) (now (y .entry)) (now (z .entry)) v ⌝ }
 {
-    let s = shape_of(w);
     let first = s.first;
     let second = s.second;
     let third = s.third;
-    let rest = text::beyond(text::beyond(b));
-    let more = text::beyond(rest);
-    let x = number_at(first, text::before(rest));
-    let y = number_at(second, text::before(more));
-    let z = number_at(third, text::before(text::beyond(more)));
-    bits_at(w, at, x, y, z, bits_of(v))
-}
-
-// The number of a line's own label.
-pub fn label_in(line: &[u8]) -> u64
-    ensures { λ r. ⌜ r ≡ labelIn (now (line .entry)) ⌝ }
-{
-    expr::label(text::before(body(line)))
+    let one = number_at(first, x);
+    let two = number_at(second, y);
+    let three = number_at(third, z);
+    bits_at(w, at, one, two, three, bits_of(v))
 }
 
 pub fn value_in(r: Read) -> i32
@@ -131,12 +181,25 @@ fn first_of(x: Checked, y: Checked) -> Checked
     }
 }
 
-fn value_check(w: What, at: ByteAddr, b: &[u8], label: Checked, room: Checked, r: Read) -> Checked
-    ensures { λ c. ⌜ c ≡ valueCheck w at (now (b .entry)) label room r ⌝ }
+fn value_check(
+    w: What,
+    s: Shape,
+    at: ByteAddr,
+    x: &[u8],
+    y: &[u8],
+    z: &[u8],
+    label: Checked,
+    room: Checked,
+    r: Read,
+) -> Checked
+    ensures { λ c. ⌜ c ≡ checkBy w s at (now (x .entry)) (now (y .entry)) (now (z .entry)) label room r ⌝ }
 {
     match r {
         Read::Got(v, _) => match v {
-            Value::Is(z) => first_of(label, first_of(fit_check(line_bits(w, at, b, z)), room)),
+            Value::Is(i) => {
+                let bits = line_bits(w, s, at, x, y, z, i);
+                first_of(label, first_of(fit_check(bits), room))
+            }
             Value::Large => first_of(label, Checked::Not(Refusal::Value)),
             Value::Unknown => Checked::Not(Refusal::Label),
         },
@@ -144,20 +207,22 @@ fn value_check(w: What, at: ByteAddr, b: &[u8], label: Checked, room: Checked, r
     }
 }
 
-fn is_sure(sure: bool, w: What, line: &[u8]) -> bool
-    ensures { λ r. ⌜ r ≡ (sure || isKnownAs w (now (line .entry))) ⌝ }
+fn is_sure(sure: bool, w: What, s: &[u8], c: Cut) -> bool
+    requires { ⌜ c ≡ cutOf (now s) ⌝ }
+    ensures { λ r. ⌜ r ≡ (sure || isKnownAs w (firstLine (now (s .entry)))) ⌝ }
 {
     if sure {
         return true;
     }
-    is_known_as(w, line)
+    is_known_as(w, s, c)
 }
 
 // `seen` are the labels set before the line, and `room` says whether its bytes lie in the image. Where the form of every line is known, it isn't
 // judged again.
 pub fn line_check(
     sure: bool,
-    line: &[u8],
+    s: &[u8],
+    c: Cut,
     w: What,
     keys: &[u64],
     places: &[u32],
@@ -165,12 +230,29 @@ pub fn line_check(
     at: ByteAddr,
     room: Checked,
 ) -> Checked
-    ensures { λ r. ⌜ r ≡ checkSure sure (labels (now (keys .entry)) (now (places .entry))) (now (seen .entry)) at room w (now (line .entry)) ⌝ }
+    requires { ⌜ c ≡ cutOf (now s) ⌝ }
+    ensures { λ r. ⌜ r ≡ checkSure sure (labels (now (keys .entry)) (now (places .entry))) (now (seen .entry)) at room w (firstLine (now (s .entry))) ⌝ }
 {
-    if is_sure(sure, w, line) {
-        let b = body(line);
-        let value = line_value(shape_of(w), b, keys, places);
-        return value_check(w, at, b, label_check(seen, label_in(line)), room, value);
+    if is_sure(sure, w, s, c) {
+        let shape = shape_of(w);
+        let x = part(s, c.from2, c.to2);
+        let y = part(s, c.from3, c.to3);
+        let z = part(s, c.from4, c.to4);
+        let value = line_value(shape, x, y, keys, places);
+        let label = label_check(seen, label_in(s, c));
+        return value_check(w, shape, at, x, y, z, label, room, value);
     }
     Checked::Not(Refusal::Form)
+}
+
+pub fn line_bytes(s: &[u8], c: Cut, w: What, keys: &[u64], places: &[u32], at: ByteAddr) -> Encoded
+    requires { ⌜ c ≡ cutOf (now s) ⌝ }
+    ensures { λ r. ⌜ bytesIn r ≡ lineBytes (labels (now (keys .entry)) (now (places .entry))) at w (firstLine (now (s .entry))) ⌝ }
+{
+    let shape = shape_of(w);
+    let x = part(s, c.from2, c.to2);
+    let y = part(s, c.from3, c.to3);
+    let z = part(s, c.from4, c.to4);
+    let value = line_value(shape, x, y, keys, places);
+    line_bits(w, shape, at, x, y, z, value_in(value))
 }

@@ -6,29 +6,28 @@ ghost use mathlib.Core.List.{[]};
 ghost use lib.ListN.{length, take};
 ghost use Rattle.text.specs.Pages.{page, writeOn};
 ghost use Rattle.expr.specs.Expr.{labels, none};
-ghost use Rattle.forms.specs.Form.{linesOf, mnemonics};
+ghost use Rattle.forms.specs.Form.{linesOf};
+ghost use Rattle.forms.specs.Parts.{firstLine, cutOf, slots};
 ghost use Rattle.asm.specs.Parts.{assembledWith, allKnown};
 ghost use Rattle.forms.specs.Says.{bytesIn};
-ghost use Rattle.asm.specs.Assemble.{addressOf, labelFor, bytesFor, labelsOf, verdictOf, lineBytes, codeOf, isOutside, answered, imageAfter, assembledOf};
+ghost use Rattle.asm.specs.Assemble.{addressOf, labelFor, bytesFor, labelsOf, verdictOf, codeOf, isOutside, answered, imageAfter, assembledOf};
 use crate::Assembled;
 use crate::Checked;
 use crate::Collected;
 use crate::Refusal;
 use crate::labels::add_label;
 use crate::labels::add_name;
+use crate::lines::is_known_as;
 use crate::lines::label_in;
-use crate::lines::line_bits;
+use crate::lines::line_bytes;
 use crate::lines::line_check;
-use crate::lines::line_value;
 use crate::lines::room_check;
-use crate::lines::value_in;
+use crate::lines::what_in;
+use forms::Cut;
 use forms::What;
-use forms::body;
-use forms::is_known_as;
-use forms::line_at;
+use forms::cut_line;
 use forms::shape_of;
 use forms::table;
-use forms::what_of;
 use isa::Encoded;
 use word::ByteAddr;
 
@@ -38,11 +37,12 @@ fn address_of(at: usize) -> ByteAddr
     ByteAddr((at % 4294967296) as u32)
 }
 
-fn label_for(known: bool, line: &[u8]) -> u64
-    ensures { λ r. ⌜ r ≡ labelFor known (now (line .entry)) ⌝ }
+fn label_for(known: bool, s: &[u8], c: Cut) -> u64
+    requires { ⌜ c ≡ cutOf (now s) ⌝ }
+    ensures { λ r. ⌜ r ≡ labelFor known (firstLine (now (s .entry))) ⌝ }
 {
     if known {
-        return label_in(line);
+        return label_in(s, c);
     }
     0
 }
@@ -60,12 +60,12 @@ fn bytes_for(known: bool, w: What) -> u32
 // The labels of the text, and whether it has lines of unknown form.
 fn collect(
     text: &[u8],
-    table: &[u64; 83],
+    table: &[u64; 312],
     start: usize,
     keys: &mut [u64],
     places: &mut [u32],
 ) -> Collected
-    requires { ⌜ (now table ≡ mnemonics) × (length (now keys) ≡ 256) × (length (now places) ≡ 256) ⌝ }
+    requires { ⌜ (now table ≡ slots) × (length (now keys) ≡ 256) × (length (now places) ≡ 256) ⌝ }
     ensures { λ r. ⌜ labels (take (r .count) (now (keys .exit))) (take (r .count) (now (places .exit))) ≡ labelsOf none (addressOf start) (linesOf (now (text .entry))) ⌝ }
     ensures { λ r. ⌜ (r .count ≤ 256) × (length (now (keys .exit)) ≡ 256) × (length (now (places .exit)) ≡ 256) ⌝ }
     ensures { λ r. ⌜ r .known ≡ allKnown (linesOf (now (text .entry))) ⌝ }
@@ -75,13 +75,14 @@ fn collect(
     let mut a = address_of(start);
     let mut at: usize = 0;
     while at < text.len() {
-        let line = line_at(text, at);
-        let w = what_of(body(line), table);
-        let known = is_known_as(w, line);
+        let s = text::end_part(text, at);
+        let c = cut_line(s);
+        let w = what_in(s, c, table);
+        let known = is_known_as(w, s, c);
         all = word::both(all, known);
-        count = add_label(keys, places, count, label_for(known, line), a);
+        count = add_label(keys, places, count, label_for(known, s, c), a);
         a = word::byte_sum(a, bytes_for(known, w));
-        at += line.len();
+        at += c.end + 1;
     }
     Collected { count, known: all }
 }
@@ -90,14 +91,14 @@ fn collect(
 fn judge(
     sure: bool,
     text: &[u8],
-    table: &[u64; 83],
+    table: &[u64; 312],
     start: usize,
     end: usize,
     keys: &[u64],
     places: &[u32],
     seen: &mut [u64],
 ) -> Assembled
-    requires { ⌜ (now table ≡ mnemonics) × (length (now seen) ≡ 256) × (start ≤ end) × (sure ≡ true → allKnown (linesOf (now text)) ≡ true) ⌝ }
+    requires { ⌜ (now table ≡ slots) × (length (now seen) ≡ 256) × (start ≤ end) × (sure ≡ true → allKnown (linesOf (now text)) ≡ true) ⌝ }
     ensures { λ r. ⌜ r ≡ verdictOf (labels (now (keys .entry)) (now (places .entry))) [] start end 0 (linesOf (now (text .entry))) ⌝ }
 {
     let mut count: usize = 0;
@@ -105,18 +106,19 @@ fn judge(
     let mut lines: usize = 0;
     let mut at: usize = 0;
     while at < text.len() {
-        let line = line_at(text, at);
-        let w = what_of(body(line), table);
+        let s = text::end_part(text, at);
+        let c = cut_line(s);
+        let w = what_in(s, c, table);
         let n = bytes_for(true, w);
         let room = room_check(to, n, end);
         let a = address_of(to);
-        let checked = line_check(sure, line, w, keys, places, &seen[..count], a, room);
+        let checked = line_check(sure, s, c, w, keys, places, &seen[..count], a, room);
         match checked {
             Checked::Fine => {
-                count = add_name(seen, count, label_in(line));
+                count = add_name(seen, count, label_in(s, c));
                 to += n as usize;
                 lines += 1;
-                at += line.len();
+                at += c.end + 1;
             }
             Checked::Not(r) => {
                 return Assembled::Refused(r, lines + 1);
@@ -147,43 +149,28 @@ fn put_bits(image: &mut [u8], to: usize, e: Encoded) -> usize
     }
 }
 
-fn put_line(
-    image: &mut [u8],
-    to: usize,
-    line: &[u8],
-    w: What,
-    keys: &[u64],
-    places: &[u32],
-    a: ByteAddr,
-) -> usize
-    ensures { λ r. ⌜ page (now (image .exit)) r ≡ writeOn (lineBytes (labels (now (keys .entry)) (now (places .entry))) a w (now (line .entry))) (page (now (image .entry)) to) ⌝ }
-{
-    let b = body(line);
-    let value = line_value(shape_of(w), b, keys, places);
-    put_bits(image, to, line_bits(w, a, b, value_in(value)))
-}
-
 // The bytes of all lines, none of which is refused.
 fn put_code(
     image: &mut [u8],
     start: usize,
     text: &[u8],
-    table: &[u64; 83],
+    table: &[u64; 312],
     keys: &[u64],
     places: &[u32],
 ) -> usize
-    requires { ⌜ now table ≡ mnemonics ⌝ }
+    requires { ⌜ now table ≡ slots ⌝ }
     ensures { λ r. ⌜ page (now (image .exit)) r ≡ writeOn (codeOf (labels (now (keys .entry)) (now (places .entry))) (addressOf start) (linesOf (now (text .entry)))) (page (now (image .entry)) start) ⌝ }
 {
     let mut to = start;
     let mut a = address_of(start);
     let mut at: usize = 0;
     while at < text.len() {
-        let line = line_at(text, at);
-        let w = what_of(body(line), table);
-        to = put_line(image, to, line, w, keys, places, a);
+        let s = text::end_part(text, at);
+        let c = cut_line(s);
+        let w = what_in(s, c, table);
+        to = put_bits(image, to, line_bytes(s, c, w, keys, places, a));
         a = word::byte_sum(a, bytes_for(true, w));
-        at += line.len();
+        at += c.end + 1;
     }
     to
 }
@@ -201,13 +188,13 @@ fn is_outside(start: usize, end: usize) -> bool
 fn put_judged(
     verdict: Assembled,
     text: &[u8],
-    table: &[u64; 83],
+    table: &[u64; 312],
     start: usize,
     keys: &[u64],
     places: &[u32],
     image: &mut [u8],
 ) -> Assembled
-    requires { ⌜ now table ≡ mnemonics ⌝ }
+    requires { ⌜ now table ≡ slots ⌝ }
     ensures { λ r. ⌜ r ≡ verdict ⌝ }
     ensures { λ _. ⌜ now (image .exit) ≡ imageAfter verdict (codeOf (labels (now (keys .entry)) (now (places .entry))) (addressOf start) (linesOf (now (text .entry)))) start (now (image .entry)) ⌝ }
 {
@@ -223,13 +210,13 @@ fn put_judged(
 fn assemble_with(
     sure: bool,
     text: &[u8],
-    table: &[u64; 83],
+    table: &[u64; 312],
     start: usize,
     keys: &[u64],
     places: &[u32],
     image: &mut [u8],
 ) -> Assembled
-    requires { ⌜ (now table ≡ mnemonics) × (start ≤ length (now image)) × (sure ≡ true → allKnown (linesOf (now text)) ≡ true) ⌝ }
+    requires { ⌜ (now table ≡ slots) × (start ≤ length (now image)) × (sure ≡ true → allKnown (linesOf (now text)) ≡ true) ⌝ }
     ensures { λ r. ⌜ answered r (now (image .exit)) ≡ assembledWith (labels (now (keys .entry)) (now (places .entry))) (linesOf (now (text .entry))) start (now (image .entry)) ⌝ }
 {
     let mut seen = [0u64; 256];

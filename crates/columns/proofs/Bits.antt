@@ -133,7 +133,7 @@ module _ (x : Entry) (l : List ℕ) where
 
 -- ---- the bits are bytes of the image
 
-half-read : (h : ℕ) (l : List ℕ) → h < 65536 → bytesRead (halfText h ++ l) ≡ h / 256 ∷ h % 256 ∷ bytesRead l
+pub half-read : (h : ℕ) (l : List ℕ) → h < 65536 → bytesRead (halfText h ++ l) ≡ h / 256 ∷ h % 256 ∷ bytesRead l
 unfolding bytesRead
 half-read h l k =
     let a : h / 4096 % 16 ≡ h / 256 / 16 = omega arith in

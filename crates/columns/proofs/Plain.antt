@@ -17,7 +17,7 @@ unfoldable pub isPlain : List ℕ → Bool
 isPlain [] = true
 isPlain (c ∷ l) = ltb 10 c && isPlain l
 
-both : (a b : Bool) → a ≡ true → b ≡ true → (a && b) ≡ true
+pub both : (a b : Bool) → a ≡ true → b ≡ true → (a && b) ≡ true
 both a b e f = rw (e, f)
 
 pub plain-append : (a b : List ℕ) → isPlain a ≡ true → isPlain b ≡ true → isPlain (a ++ b) ≡ true

@@ -26,7 +26,7 @@ use Rattle.columns.proofs.Names.{byte-back, half-back, one-kind, none-a
 use Rattle.columns.proofs.Operands.{parted, one-same, bits-same}
 use Rattle.columns.proofs.Alike.{SameBy, alike}
 
-row-tab : (r : Row) → rowText r ≡ 9 ∷ drop 1 (rowText r)
+pub row-tab : (r : Row) → rowText r ≡ 9 ∷ drop 1 (rowText r)
 unfolding rowText
 row-tab (Row.One x) = rw (operand-tab x)
 row-tab (Row.Two x y) = rw (operand-tab x)

@@ -7,9 +7,11 @@ ghost use Rattle.word.specs.Bits.{withBit};
 ghost use Rattle.cpu.specs.Control.{withPsw, withTimer};
 ghost use Rattle.cpu.specs.Entries.{vector, enter, entered, isBreak, watchHit, watchEntry, fallen, passed};
 ghost use Rattle.cpu.specs.Cycles.{entryCost};
+ghost use Rattle.cpu.specs.Exec.{onward};
 ghost use Rattle.cpu.specs.declared.Entry.{Entry};
 use crate::Control;
 use crate::Entry;
+use crate::effects::go_on;
 use crate::places::with_cycles;
 use crate::places::with_hwdbg;
 use crate::places::with_ipc;
@@ -33,7 +35,7 @@ fn enter_at(low: u32, c: Control) -> Control
     with_pc(with_ipc(on, c.pc), vector_at(low, c))
 }
 
-fn enter_swint(n: u32, c: Control) -> Control
+pub fn enter_swint(n: u32, c: Control) -> Control
     ensures { λ r. ⌜ r ≡ entered (Entry.Swint n) c ⌝ }
 {
     let p = word::with_field(c.psw, 16, 4, n);
@@ -67,6 +69,20 @@ fn enter_error(bit: u32, c: Control) -> Control
     ensures { λ r. ⌜ r ≡ enter 16 (withPsw c (withBit (c .psw) bit true)) ⌝ }
 {
     enter_at(16, with_psw(c, word::with_bit(c.psw, bit, true)))
+}
+
+// A fetch outside memory.
+pub fn fetch_error(c: Control) -> Control
+    ensures { λ r. ⌜ r ≡ entered Entry.FetchError c ⌝ }
+{
+    enter_error(15, c)
+}
+
+// Data outside memory: the entry is made at the next instruction.
+pub fn data_error(c: Control) -> Control
+    ensures { λ r. ⌜ r ≡ entered Entry.DataError (onward 2 c) ⌝ }
+{
+    enter_error(14, go_on(2, c))
 }
 
 pub fn enter(e: Entry, c: Control) -> Control
@@ -120,6 +136,17 @@ pub fn watch(a: ByteAddr, c: Control) -> Entry
     }
 }
 
+// The same entry made, or none. An entry that is made where it is known costs the machine's loop less than one that is matched again.
+pub fn enter_watch(a: ByteAddr, c: Control) -> Control
+    ensures { λ r. ⌜ r ≡ entered (watchEntry a c) c ⌝ }
+{
+    if word::field(c.hwdbg, 4, 2) == 0 {
+        return c;
+    }
+    let hit = watch_hit(a, c);
+    if 0 < hit { enter_debug(hit, c) } else { c }
+}
+
 fn fall_by(n: u32, c: Control) -> Control
     ensures { λ r. ⌜ r ≡ withTimer c (c .timer - n) (c .pending || leb (c .timer) n) ⌝ }
 {
@@ -128,6 +155,16 @@ fn fall_by(n: u32, c: Control) -> Control
     } else {
         with_timer(c, c.timer - n, c.pending)
     }
+}
+
+// What a watchpoint's entry adds to its load or store.
+pub fn watch_cost(a: ByteAddr, c: Control) -> u8
+    ensures { λ r. ⌜ r ≡ entryCost (watchEntry a c) ⌝ }
+{
+    if word::field(c.hwdbg, 4, 2) == 0 {
+        return 0;
+    }
+    if 0 < watch_hit(a, c) { 4 } else { 0 }
 }
 
 // What an entry adds to its instruction's cost.

@@ -8,11 +8,16 @@ mod system;
 mod values;
 
 pub use effects::is_wanted;
+pub use entries::data_error;
 pub use entries::enter;
+pub use entries::enter_swint;
+pub use entries::enter_watch;
 pub use entries::entry_cost;
+pub use entries::fetch_error;
 pub use entries::has_break;
 pub use entries::pass;
 pub use entries::watch;
+pub use entries::watch_cost;
 pub use operands::data_address;
 pub use operands::sources_of;
 pub use places::fresh_control;

@@ -6,11 +6,14 @@ use mathlib.Core.Bool.{Bool, true, false, cond, _&&_, _||_}
 use mathlib.Core.List.{List, [], _∷_}
 use native.Mathlib.Omega.{arith}
 use lib.Dec.{eqb, leb, ltb}
-use borrow.Author.Tests.{ltb-true, ltb-false, leb-true, eqb-true, ne-eqb, eq-eqb}
+use borrow.Author.Tests.{le-leb, lt-leb, ltb-true, ltb-false, leb-true, eqb-true, ne-eqb, eq-eqb}
 use native.Mathlib.Nat.{pow-le-pow-right}
 use lib.Pow.{pow-add}
 use lib.ListN.{length, getD, take, drop, length-take, length-drop, drop-of-length-le}
-use Rattle.expr.specs.Expr.{isLetter, isDigit, runOf, rankOf, keyFrom, isName, indexOf, isHex}
+use lib.Seq.{length-take-le}
+use Rattle.expr.specs.declared.Fault.{Fault}
+use Rattle.expr.specs.declared.Read.{Read}
+use Rattle.expr.specs.Expr.{isLetter, isDigit, runOf, rankOf, keyFrom, isName, Labels, indexOf, meaning, isHex, numberRead, wordRead, leafOf}
 use Rattle.expr.proofs.Laws.{next}
 
 abbrev pub named : ℕ → Bool
@@ -40,11 +43,6 @@ pub all-named : (c : ℕ) (s : List ℕ) → runOf (c ∷ s) ≡ length (c ∷ s
 unfolding runOf
 all-named c s e = both-true (named c) (runOf s) (length s) e
 
-pub named-at : (s : List ℕ) (i : ℕ) → runOf s ≡ length s → i < length s → named (getD s i 0) ≡ true
-named-at [] i e h = absurd (omega arith)
-named-at (c ∷ s) zero e h = all-named c s e .0
-named-at (c ∷ s) (suc i) e h = named-at s i (all-named c s e .1) (omega arith)
-
 -- the letters and digits that lead are all that a word has
 pub run-most : (s : List ℕ) → runOf s ≤ length s
 unfolding runOf
@@ -54,18 +52,6 @@ run-most (c ∷ s) = go (named c) (run-most s)
     go : (t : Bool) → runOf s ≤ length s → cond t (suc (runOf s)) 0 ≤ suc (length s)
     go true h = omega arith
     go false h = omega arith
-
-pub run-word : (s : List ℕ) → runOf (take (runOf s) s) ≡ length (take (runOf s) s)
-unfolding runOf
-run-word [] = refl
-run-word (c ∷ s) = go (named c) refl (run-word s)
-  where
-    go : (t : Bool) → named c ≡ t → runOf (take (runOf s) s) ≡ length (take (runOf s) s) → runOf (take (cond t (suc (runOf s)) 0) (c ∷ s)) ≡ length (take (cond t (suc (runOf s)) 0) (c ∷ s))
-    go true e h = rw e (ap suc h)
-    go false e h = refl
-
-pub run-of : (s : List ℕ) (n : ℕ) → n ≡ runOf s → runOf (take n s) ≡ length (take n s)
-run-of s n e = rw e (run-word s)
 
 -- what is read of a part is not longer than the whole
 pub size-in : (s : List ℕ) (n x : ℕ) → x ≤ length (take n s) → x ≤ length s
@@ -131,6 +117,17 @@ digit-range c e = let f = flags (leb 48 c) (leb c 57) e in (leb-true 48 c (f .0)
 pub hex-long : (w : List ℕ) → isHex w ≡ true → 2 ≤ length w
 hex-long w e = let h = ltb-true 2 (length w) (flags _ (eqb (getD w 0 0) 48) (flags _ (eqb (getD w 1 0) 120) e .0) .0) in omega arith
 
+-- the first of a word's bytes is the text's
+pub first-named : (s : List ℕ) → isLetter (getD s 0 0) ≡ true → isLetter (getD (take (runOf s) s) 0 0) ≡ true
+unfolding runOf
+first-named [] e = e
+first-named (c ∷ s) e = rw e e
+
+pub first-other : (s : List ℕ) (n : ℕ) → isLetter (getD s 0 0) ≡ false → isLetter (getD (take n s) 0 0) ≡ false
+first-other s zero e = refl
+first-other [] (suc n) e = refl
+first-other (c ∷ s) (suc n) e = e
+
 pub first-letter : (s : List ℕ) (b : ℕ) (r t : Bool) → b ≡ getD s 0 0 → r ≡ isLetter b → r ≡ t → isLetter (getD s 0 0) ≡ t
 first-letter s b r t e f g = ap isLetter (sym e) ∙ sym f ∙ g
 
@@ -145,7 +142,59 @@ rank-of c e = go (isLetter c) refl
     go true p = let r = letter-range c p in (omega arith, omega arith)
     go false p = let r = digit-range c (or-digit c e p) in (omega arith, omega arith)
 
+-- a rank is above 0 exactly if the byte is a letter or a digit
+module _ (c r : ℕ) (e : r ≡ cond (named c) (rankOf c) 0) where
+  pub rank-some : (r ≡ 0 → ⊥) → (named c ≡ true) × (r ≡ rankOf c)
+  rank-some f = go (named c) refl e
+    where
+      go : (t : Bool) → named c ≡ t → r ≡ cond t (rankOf c) 0 → (named c ≡ true) × (r ≡ rankOf c)
+      go true p q = (p, q)
+      go false p q = absurd (f q)
+
+  pub rank-none : r ≡ 0 → named c ≡ false
+  rank-none f = go (named c) refl e
+    where
+      go : (t : Bool) → named c ≡ t → r ≡ cond t (rankOf c) 0 → named c ≡ false
+      go true p q = let h = rank-of c p in absurd (omega arith)
+      go false p q = p
+
 -- ---- a name's number
+
+-- the name that leads from a place on
+abbrev pub lead : List ℕ → ℕ → List ℕ
+lead l i = take (runOf (drop i l)) (drop i l)
+
+module _ (l : List ℕ) (i : ℕ) (h : i < length l) where
+  pub lead-on : named (getD l i 0) ≡ true → (v r : ℕ) → r ≡ rankOf (getD l i 0) → keyFrom v (lead l i) ≡ keyFrom (v * 37 + r) (lead l (i + 1))
+  unfolding keyFrom runOf
+  lead-on e v r q = rw (next l i h, e, q)
+
+  pub lead-stop : named (getD l i 0) ≡ false → (v : ℕ) → keyFrom v (lead l i) ≡ v
+  unfolding keyFrom runOf
+  lead-stop e v = rw (next l i h, e)
+
+pub lead-end : (l : List ℕ) (i : ℕ) → length l ≤ i → (v : ℕ) → keyFrom v (lead l i) ≡ v
+unfolding keyFrom runOf
+lead-end l i h v = rw (drop-of-length-le l h)
+
+-- what a text says that a letter leads: its name has the number v
+module _ (t : Labels) (s : List ℕ) (e : isLetter (getD s 0 0) ≡ true) where
+  pub name-leaf : (v i : ℕ) → i ≡ runOf s → v ≡ keyFrom 0 (lead s 0) → i ≤ 12 → Read.Got (meaning t v) i ≡ leafOf t s
+  unfolding leafOf wordRead
+  name-leaf v i p q h =
+      let k : runOf s ≤ 12 = omega arith in
+      rw (first-named s e, length-take-le (runOf s) s (run-most s), le-leb (runOf s) 12 k, p, q)
+
+  pub name-long : (i : ℕ) → i < runOf s → 12 ≤ i → Read.Not Fault.Form ≡ leafOf t s
+  unfolding leafOf wordRead
+  name-long i p h =
+      let k : 12 < runOf s = omega arith in
+      rw (first-named s e, length-take-le (runOf s) s (run-most s), lt-leb (runOf s) 12 k)
+
+-- a text that no letter leads is a number's
+pub other-leaf : (t : Labels) (s : List ℕ) (n : ℕ) (r : Read) → isLetter (getD s 0 0) ≡ false → n ≡ runOf s → r ≡ numberRead (take n s) → r ≡ leafOf t s
+unfolding leafOf wordRead
+other-leaf t s n r e p q = rw (q, p, first-other s (runOf s) e)
 
 module _ (l : List ℕ) (i : ℕ) where
   pub key-on : i < length l → (v r : ℕ) → r ≡ rankOf (getD l i 0) → keyFrom v (drop i l) ≡ keyFrom (v * 37 + r) (drop (i + 1) l)
@@ -237,6 +286,15 @@ key-differs a b p q e = go (ltb (length a) (length b)) (ltb (length b) (length a
     go false false f g = let x = ltb-false (length a) (length b) f in let y = ltb-false (length b) (length a) g in key-same a b 0 0 p q (omega arith) e .1
 
 -- what makes a name
+-- a name's number is that of its letters and digits, where they are few enough
+pub name-short : (t : Bool) (k : ℕ) → cond t k 0 ≡ cond (t && true) k 0
+name-short true k = refl
+name-short false k = refl
+
+pub name-none : (t : Bool) (k : ℕ) → 0 ≡ cond (t && false) k 0
+name-none true k = refl
+name-none false k = refl
+
 pub name-parts : (s : List ℕ) → isName s ≡ true → (0 < length s) × (runOf s ≡ length s) × (length s ≤ 12)
 name-parts s e =
     let f = flags _ (leb (length s) 12) e in

@@ -84,11 +84,14 @@ abbrev pub isHex : List ℕ → Bool
 isHex w = ltb 2 (length w) && eqb (getD w 0 0) 48 && eqb (getD w 1 0) 120
 
 -- "decimal without leading zeros; hex 0x and one or more lower-case digits, leading zeros fine; any length"
+abbrev pub numberRead : List ℕ → Read
+numberRead w =
+    cond (isHex w) (counted (length w) (digitsRead 16 0 (drop 2 w)))
+    (cond (eqb (length w) 0 || leadingZero w) (Read.Not Fault.Form) (counted (length w) (digitsRead 10 0 w)))
+
 unfoldable pub wordRead : Labels → List ℕ → Read
 wordRead t w =
-    cond (isLetter (getD w 0 0)) (cond (leb (length w) 12) (Read.Got (meaning t (keyOf w)) (length w)) (Read.Not Fault.Form))
-    (cond (isHex w) (counted (length w) (digitsRead 16 0 (drop 2 w)))
-    (cond (eqb (length w) 0 || leadingZero w) (Read.Not Fault.Form) (counted (length w) (digitsRead 10 0 w))))
+    cond (isLetter (getD w 0 0)) (cond (leb (length w) 12) (Read.Got (meaning t (keyOf w)) (length w)) (Read.Not Fault.Form)) (numberRead w)
 
 unfoldable pub leafOf : Labels → List ℕ → Read
 leafOf t s = wordRead t (take (runOf s) s)

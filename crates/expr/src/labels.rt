@@ -1,7 +1,8 @@
 // Labels: names, their numbers, and where they stand.
 ghost use mathlib.Core.Path.{_≡_};
-ghost use mathlib.Core.Bool.{true, cond, _||_};
-ghost use Prim.Native.Nat.{_+_, _≤_, _<_, _^_};
+ghost use mathlib.Core.Bool.{cond, _||_};
+ghost use Prim.Native.Nat.{_+_, _≤_};
+ghost use lib.Dec.{eqb};
 ghost use lib.ListN.{length, getD, drop};
 ghost use Rattle.expr.specs.Expr.{isLetter, isDigit, runOf, rankOf, keyOf, isName, indexOf, meaning, labels};
 use crate::Value;
@@ -59,25 +60,32 @@ pub fn run(s: &[u8]) -> usize
     i
 }
 
-fn rank(c: u8) -> u64
-    requires { ⌜ (isLetter c || isDigit c) ≡ true ⌝ }
-    ensures { λ r. ⌜ (r ≡ rankOf c) × (r ≤ 36) ⌝ }
+// 0 for what is no letter and no digit.
+pub fn rank(c: u8) -> u64
+    ensures { λ r. ⌜ (r ≡ cond (isLetter c || isDigit c) (rankOf c) 0) × (r ≤ 36) ⌝ }
 {
     if is_letter(c) {
         return (c - 86) as u64;
     }
-    (c - 47) as u64
+    if is_digit(c) {
+        return (c - 47) as u64;
+    }
+    0
 }
 
-// Twelve characters at most, so that the number fits.
-pub fn key(s: &[u8]) -> u64
-    requires { ⌜ (length (now s) ≤ 12) × (runOf (now s) ≡ length (now s)) ⌝ }
-    ensures { λ r. ⌜ r ≡ keyOf (now (s .entry)) ⌝ }
+// The number of letters and digits, twelve at most so that it fits; 0 where another byte stands among them.
+fn key(s: &[u8]) -> u64
+    requires { ⌜ length (now s) ≤ 12 ⌝ }
+    ensures { λ r. ⌜ r ≡ cond (eqb (runOf (now (s .entry))) (length (now (s .entry)))) (keyOf (now (s .entry))) 0 ⌝ }
 {
     let mut v: u64 = 0;
     let mut i: usize = 0;
     while i < s.len() {
-        v = v * 37 + rank(s[i]);
+        let r = rank(s[i]);
+        if r == 0 {
+            return 0;
+        }
+        v = v * 37 + r;
         i += 1;
     }
     v
@@ -88,11 +96,8 @@ pub fn label(s: &[u8]) -> u64
     ensures { λ r. ⌜ r ≡ cond (isName (now (s .entry))) (keyOf (now (s .entry))) 0 ⌝ }
 {
     if is_letter(byte(s, 0)) {
-        if run(s) == s.len() {
-            if s.len() <= 12 {
-                return key(s);
-            }
-            return 0;
+        if s.len() <= 12 {
+            return key(s);
         }
         return 0;
     }

@@ -1,17 +1,17 @@
 // Numbers and labels: the letters and digits that lead, as one word.
 ghost use mathlib.Core.Path.{_≡_};
-ghost use mathlib.Core.Bool.{cond};
+ghost use mathlib.Core.Bool.{true, cond};
 ghost use Prim.Native.Nat.{_+_, _*_, _≤_};
 ghost use lib.Dec.{leb};
-ghost use lib.ListN.{length, drop};
+ghost use lib.ListN.{length, getD, drop};
 ghost use Rattle.text.specs.Digits.{digitsRead};
-ghost use Rattle.expr.specs.Expr.{runOf, isHex, labels, sizeOf, counted, wordRead, leafOf};
+ghost use Rattle.expr.specs.Expr.{isLetter, isHex, labels, sizeOf, counted, numberRead, leafOf};
 use crate::Fault;
 use crate::Read;
 use crate::labels::byte;
 use crate::labels::is_letter;
-use crate::labels::key;
 use crate::labels::mean;
+use crate::labels::rank;
 use crate::labels::run;
 use crate::values::write;
 
@@ -56,17 +56,10 @@ fn is_hex(w: &[u8]) -> bool
     false
 }
 
-fn word(w: &[u8], keys: &[u64], places: &[u32]) -> Read
-    requires { ⌜ runOf (now w) ≡ length (now w) ⌝ }
-    ensures { λ r. ⌜ (r ≡ wordRead (labels (now (keys .entry)) (now (places .entry))) (now (w .entry))) × (sizeOf r ≤ length (now (w .entry))) ⌝ }
+// A word that no letter leads.
+fn number(w: &[u8]) -> Read
+    ensures { λ r. ⌜ (r ≡ numberRead (now (w .entry))) × (sizeOf r ≤ length (now (w .entry))) ⌝ }
 {
-    if is_letter(byte(w, 0)) {
-        if w.len() <= 12 {
-            let v = mean(keys, places, key(w));
-            return Read::Got(v, w.len());
-        }
-        return Read::Not(Fault::Form);
-    }
     if is_hex(w) {
         return digits(16, 2, w);
     }
@@ -79,9 +72,33 @@ fn word(w: &[u8], keys: &[u64], places: &[u32]) -> Read
     digits(10, 0, w)
 }
 
+// The label that leads: its number is made while it is passed.
+fn name(s: &[u8], keys: &[u64], places: &[u32]) -> Read
+    requires { ⌜ isLetter (getD (now s) 0 0) ≡ true ⌝ }
+    ensures { λ r. ⌜ (r ≡ leafOf (labels (now (keys .entry)) (now (places .entry))) (now (s .entry))) × (sizeOf r ≤ length (now (s .entry))) ⌝ }
+{
+    let mut v: u64 = 0;
+    let mut i: usize = 0;
+    while i < s.len() {
+        let r = rank(s[i]);
+        if r == 0 {
+            return Read::Got(mean(keys, places, v), i);
+        }
+        if 12 <= i {
+            return Read::Not(Fault::Form);
+        }
+        v = v * 37 + r;
+        i += 1;
+    }
+    Read::Got(mean(keys, places, v), i)
+}
+
 pub fn leaf(s: &[u8], keys: &[u64], places: &[u32]) -> Read
     ensures { λ r. ⌜ (r ≡ leafOf (labels (now (keys .entry)) (now (places .entry))) (now (s .entry))) × (sizeOf r ≤ length (now (s .entry))) ⌝ }
 {
+    if is_letter(byte(s, 0)) {
+        return name(s, keys, places);
+    }
     let n = run(s);
-    word(&s[..n], keys, places)
+    number(&s[..n])
 }

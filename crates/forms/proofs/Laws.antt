@@ -16,15 +16,12 @@ use lib.ListN.{length, getD, take, drop, length-drop, drop-of-length-le}
 use lib.Seq.{drop-cons, drop-drop, length-take-le}
 use borrow.Author.Tests.{eq-eqb, ne-eqb, eqb-true, ltb-true, le-ltb}
 use Rattle.word.specs.Bits.{num}
-use Rattle.forms.specs.Form.{isEnded, bodyOf, tabsIn, ontoFirst, linesOf}
+use Rattle.expr.proofs.Laws.{beyond}
+use Rattle.forms.specs.Form.{bodyOf, tabsIn, ontoFirst, linesOf}
 use Rattle.forms.specs.Says.{bitsOf}
-use Rattle.forms.specs.Parts.{lineSize, firstLine}
+use Rattle.forms.specs.Parts.{lineSize, firstLine, stopOf, endOf, stopAt, endAt, pastTab, withEntry, entered}
 
 -- ---- a line without bytes
-
-pub no-end : (l : List ℕ) → length l ≡ 0 → false ≡ isEnded l
-no-end [] e = refl
-no-end (c ∷ l) e = absurd (omega arith)
 
 pub no-body : (l : List ℕ) → length l ≡ 0 → l ≡ bodyOf l
 no-body [] e = refl
@@ -40,25 +37,52 @@ module _ (l : List ℕ) (i : ℕ) (h : i < length l) where
   unfolding tabsIn
   tabs-on n e = rw (next, ← e)
 
-  pub size-stop : getD l i 0 ≡ 10 → lineSize (drop i l) ≡ 1
-  unfolding lineSize
-  size-stop e = rw (next, eq-eqb _ _ e)
+  pub stop-tab : getD l i 0 ≡ 9 → i ≡ stopAt l i
+  unfolding stopAt stopOf
+  stop-tab e = rw (next, eq-eqb _ _ e) (omega arith)
 
-  pub size-on : (getD l i 0 ≡ 10 → ⊥) → lineSize (drop i l) ≡ suc (lineSize (drop (i + 1) l))
-  unfolding lineSize
-  size-on k = rw (next, ne-eqb _ _ k)
+  pub end-there : getD l i 0 ≡ 10 → i ≡ endAt l i
+  unfolding endAt endOf
+  end-there e = rw (next, eq-eqb _ _ e) (omega arith)
+
+  pub end-on : (getD l i 0 ≡ 10 → ⊥) → endAt l (i + 1) ≡ endAt l i
+  unfolding endAt endOf
+  end-on k = rw (next, ne-eqb _ _ k) (omega arith)
+
+  module _ (n : getD l i 0 ≡ 9 → ⊥) where
+    pub stop-newline : getD l i 0 ≡ 10 → i ≡ stopAt l i
+    unfolding stopAt stopOf
+    stop-newline e = rw (next, ne-eqb _ _ n, eq-eqb _ _ e) (omega arith)
+
+    pub stop-on : (getD l i 0 ≡ 10 → ⊥) → stopAt l (i + 1) ≡ stopAt l i
+    unfolding stopAt stopOf
+    stop-on k = rw (next, ne-eqb _ _ n, ne-eqb _ _ k) (omega arith)
+
+  pub entered-on : (t : List ℕ) → entered i (drop i l) t ≡ entered (i + 1) (drop (i + 1) l) (withEntry t (getD l i 0) i)
+  unfolding entered
+  entered-on t = rw (next, add-one)
 
 module _ (l : List ℕ) (i : ℕ) (h : length l ≤ i) where
   pub tabs-none : tabsIn (drop i l) ≡ 0
   unfolding tabsIn
   tabs-none = rw (drop-of-length-le l h)
 
-  pub size-none : lineSize (drop i l) ≡ 0
-  unfolding lineSize
-  size-none = rw (drop-of-length-le l h)
+  pub stop-none : i ≡ stopAt l i
+  unfolding stopAt stopOf
+  stop-none = rw (drop-of-length-le l h) (omega arith)
 
-pub add-sub : (a n : ℕ) → a + n - a ≡ n
-add-sub a n = omega arith
+  pub end-none : i ≡ endAt l i
+  unfolding endAt endOf
+  end-none = rw (drop-of-length-le l h) (omega arith)
+
+  pub entered-end : (t : List ℕ) → entered i (drop i l) t ≡ t
+  unfolding entered
+  entered-end t = rw (drop-of-length-le l h)
+
+  -- no tab stands past the end
+  pub past-none : i ≡ pastTab l i
+  unfolding pastTab
+  past-none = rw (beyond l i h)
 
 -- ---- the lines of a text, one after the other
 
@@ -75,7 +99,7 @@ unfolding linesOf lineSize ontoFirst
 first-line c [] = line-step c [] (eqb c 10) refl refl
 first-line c (d ∷ s) = line-step c (d ∷ s) (eqb c 10) refl (ap (ontoFirst c) (first-line d s))
 
-size-within : (s : List ℕ) → lineSize s ≤ length s
+pub size-within : (s : List ℕ) → lineSize s ≤ length s
 unfolding lineSize
 size-within [] = omega arith
 size-within (c ∷ s) = go (eqb c 10) (size-within s)
@@ -84,7 +108,7 @@ size-within (c ∷ s) = go (eqb c 10) (size-within s)
     go true h = omega arith
     go false h = omega arith
 
-some-size : (c : ℕ) (s : List ℕ) → 0 < lineSize (c ∷ s)
+pub some-size : (c : ℕ) (s : List ℕ) → 0 < lineSize (c ∷ s)
 unfolding lineSize
 some-size c s = go (eqb c 10)
   where

@@ -1,53 +1,94 @@
-// Lines of a text, and fields of a line.
+// Where the fields of a line stand.
 ghost use mathlib.Core.Path.{_≡_};
-ghost use Prim.Native.Nat.{_+_, _≤_, _<_};
+ghost use Prim.Native.Nat.{_≤_};
 ghost use lib.Dec.{eqb};
-ghost use lib.ListN.{length, drop};
+ghost use lib.ListN.{length};
 ghost use Rattle.word.specs.Bits.{num};
-ghost use Rattle.forms.specs.Form.{isEnded, bodyOf, tabsIn, fieldAt};
-ghost use Rattle.forms.specs.Parts.{lineSize, firstLine};
+ghost use Rattle.forms.specs.Form.{bodyOf, tabsIn};
+ghost use Rattle.forms.specs.Parts.{stopAt, endAt, pastTab, cutOf};
+use crate::Cut;
 
-fn line_size(text: &[u8], at: usize) -> usize
-    requires { ⌜ at < length (now text) ⌝ }
-    ensures { λ r. ⌜ (r ≡ lineSize (drop at (now (text .entry)))) × (at + r ≤ length (now (text .entry))) ⌝ }
+// The place of the next tab or newline.
+fn stop_from(t: &[u8], from: usize) -> usize
+    ensures { λ r. ⌜ r ≡ stopAt (now (t .entry)) from ⌝ }
 {
-    let mut end = at;
-    while end < text.len() {
-        if text[end] == 10 {
-            return end - at + 1;
+    let mut i = from;
+    while i < t.len() {
+        let c = t[i];
+        if c == 9 {
+            return i;
         }
-        end += 1;
+        if c == 10 {
+            return i;
+        }
+        i += 1;
     }
-    end - at
+    i
 }
 
-// The line at a place, with its newline.
-pub fn line_at(text: &[u8], at: usize) -> &[u8]
-    requires { ⌜ at < length (now text) ⌝ }
-    ensures { λ r. ⌜ now r ≡ firstLine (drop at (now (text .entry))) ⌝ }
+fn end_from(t: &[u8], from: usize) -> usize
+    ensures { λ r. ⌜ r ≡ endAt (now (t .entry)) from ⌝ }
 {
-    let end = at + line_size(text, at);
-    &text[at..end]
+    let mut i = from;
+    while i < t.len() {
+        if t[i] == 10 {
+            return i;
+        }
+        i += 1;
+    }
+    i
 }
 
-pub fn is_ended(line: &[u8]) -> bool
-    ensures { λ r. ⌜ r ≡ isEnded (now (line .entry)) ⌝ }
+fn past_tab(t: &[u8], at: usize) -> usize
+    ensures { λ r. ⌜ r ≡ pastTab (now (t .entry)) at ⌝ }
 {
-    let n = line.len();
+    if at < t.len() {
+        if t[at] == 9 {
+            return at + 1;
+        }
+        return at;
+    }
+    at
+}
+
+// All but the last byte.
+fn body(l: &[u8]) -> &[u8]
+    ensures { λ r. ⌜ now r ≡ bodyOf (now (l .entry)) ⌝ }
+{
+    let n = l.len();
     if n == 0 {
-        return false;
+        return l;
     }
-    line[n - 1] == 10
+    text::start_part(l, n - 1)
 }
 
-pub fn body(line: &[u8]) -> &[u8]
-    ensures { λ r. ⌜ now r ≡ bodyOf (now (line .entry)) ⌝ }
+// The fields of the first line, in one pass. The last byte of a text stands in no field: it is a newline, or the last line is of unknown form.
+pub fn cut_line(s: &[u8]) -> Cut
+    ensures { λ r. ⌜ r ≡ cutOf (now (s .entry)) ⌝ }
 {
-    let n = line.len();
-    if n == 0 {
-        return line;
+    let t = body(s);
+    let to0 = stop_from(t, 0);
+    let from1 = past_tab(t, to0);
+    let to1 = stop_from(t, from1);
+    let from2 = past_tab(t, to1);
+    let to2 = stop_from(t, from2);
+    let from3 = past_tab(t, to2);
+    let to3 = stop_from(t, from3);
+    let from4 = past_tab(t, to3);
+    let to4 = stop_from(t, from4);
+    let end = end_from(t, to4);
+    Cut {
+        to0,
+        from1,
+        to1,
+        from2,
+        to2,
+        from3,
+        to3,
+        from4,
+        to4,
+        end,
     }
-    text::start_part(line, n - 1)
 }
 
 // 1 for a tab, 0 for another byte.
@@ -61,7 +102,7 @@ fn tab(c: u8) -> usize
 }
 
 pub fn tabs_in(l: &[u8]) -> usize
-    ensures { λ r. ⌜ r ≡ tabsIn (now (l .entry)) ⌝ }
+    ensures { λ r. ⌜ (r ≡ tabsIn (now (l .entry))) × (r ≤ length (now (l .entry))) ⌝ }
 {
     let mut n: usize = 0;
     let mut i: usize = 0;
@@ -70,15 +111,4 @@ pub fn tabs_in(l: &[u8]) -> usize
         i += 1;
     }
     n
-}
-
-// What stands beyond the first n bytes.
-pub fn end_part(l: &[u8], n: usize) -> &[u8]
-    ensures { λ r. ⌜ now r ≡ drop n (now (l .entry)) ⌝ }
-{
-    let size = l.len();
-    if n < size {
-        return &l[n..];
-    }
-    &l[size..]
 }

@@ -1,24 +1,21 @@
 // The form of a line.
 ghost use mathlib.Core.Path.{_≡_};
-ghost use Rattle.forms.specs.Form.{named, mnemonics, whatOf, numberAt, isOf, isLabel, fitsShape, isKnownBody, isKnownAs};
+ghost use Rattle.forms.specs.Form.{named, whatAt, numberAt, isOf, isLabel};
+ghost use Rattle.forms.specs.Parts.{placeIn, fitsFields, knownFields};
 use crate::Shape;
 use crate::Sort;
 use crate::What;
-use crate::fields::body;
-use crate::fields::is_ended;
-use crate::fields::tabs_in;
 use crate::shapes::numbered;
-use crate::shapes::shape_of;
+use crate::shapes::place_in;
+use crate::shapes::register;
 use crate::shapes::tabs_for;
 use crate::shapes::what_at;
 
-// What the line without its newline names. The table of mnemonics is lent, since the compiler builds it anew wherever it is named.
-pub fn what_of(b: &[u8], table: &[u64; 83]) -> What
-    requires { ⌜ now table ≡ mnemonics ⌝ }
-    ensures { λ r. ⌜ r ≡ whatOf (now (b .entry)) ⌝ }
+// What a name names. The table of mnemonics is lent, since it is made anew wherever it is called for.
+pub fn what_of(name: &[u8], table: &[u64; 312]) -> What
+    ensures { λ r. ⌜ r ≡ whatAt (placeIn (now (table .entry)) (named (now (name .entry)))) ⌝ }
 {
-    let name = text::before(text::beyond(b));
-    what_at(expr::find(table, expr::label(name)))
+    what_at(place_in(table, expr::label(name)))
 }
 
 pub fn number_at(s: Sort, field: &[u8]) -> u32
@@ -27,7 +24,7 @@ pub fn number_at(s: Sort, field: &[u8]) -> u32
     match s {
         Sort::Nothing => 0,
         Sort::Never => 0,
-        Sort::Reg => numbered(b"r", 16, field),
+        Sort::Reg => register(field),
         Sort::Sfr => numbered(b"sfr", 11, field),
         Sort::LowSfr => numbered(b"sfr", 4, field),
         Sort::Sum => 0,
@@ -56,18 +53,16 @@ fn is_label(field: &[u8]) -> bool
     0 < expr::label(field)
 }
 
-fn fits_shape(s: Shape, b: &[u8]) -> bool
-    ensures { λ r. ⌜ r ≡ fitsShape s (now (b .entry)) ⌝ }
+fn fits_shape(s: Shape, tabs: usize, x: &[u8], y: &[u8], z: &[u8]) -> bool
+    ensures { λ r. ⌜ r ≡ fitsFields s tabs (now (x .entry)) (now (y .entry)) (now (z .entry)) ⌝ }
 {
-    if tabs_in(b) == tabs_for(s) {
+    if tabs == tabs_for(s) {
         let first = s.first;
         let second = s.second;
         let third = s.third;
-        let rest = text::beyond(text::beyond(b));
-        if is_of(first, text::before(rest)) {
-            let more = text::beyond(rest);
-            if is_of(second, text::before(more)) {
-                return is_of(third, text::before(text::beyond(more)));
+        if is_of(first, x) {
+            if is_of(second, y) {
+                return is_of(third, z);
             }
             return false;
         }
@@ -76,20 +71,12 @@ fn fits_shape(s: Shape, b: &[u8]) -> bool
     false
 }
 
-fn is_known_body(w: What, b: &[u8]) -> bool
-    ensures { λ r. ⌜ r ≡ isKnownBody w (now (b .entry)) ⌝ }
+// Whether a line is of known form that has so many tabs, its own label, and three operand fields, of which it may lack some.
+pub fn is_known(s: Shape, tabs: usize, label: &[u8], x: &[u8], y: &[u8], z: &[u8]) -> bool
+    ensures { λ r. ⌜ r ≡ knownFields s tabs (now (label .entry)) (now (x .entry)) (now (y .entry)) (now (z .entry)) ⌝ }
 {
-    if is_label(text::before(b)) {
-        return fits_shape(shape_of(w), b);
-    }
-    false
-}
-
-pub fn is_known_as(w: What, line: &[u8]) -> bool
-    ensures { λ r. ⌜ r ≡ isKnownAs w (now (line .entry)) ⌝ }
-{
-    if is_ended(line) {
-        return is_known_body(w, body(line));
+    if is_label(label) {
+        return fits_shape(s, tabs, x, y, z);
     }
     false
 }

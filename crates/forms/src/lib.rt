@@ -4,9 +4,9 @@ mod form;
 mod says;
 mod shapes;
 
-pub use fields::body;
-pub use fields::line_at;
-pub use form::is_known_as;
+pub use fields::cut_line;
+pub use fields::tabs_in;
+pub use form::is_known;
 pub use form::number_at;
 pub use form::what_of;
 use isa::Kind;
@@ -38,4 +38,19 @@ pub struct Shape {
     pub first: Sort,
     pub second: Sort,
     pub third: Sort,
+}
+
+// Field n of a line stands from `fromn` to `ton`, and the first from 0 on: its own label, its mnemonic, three operands. Fields that it lacks
+// are empty, at its end.
+pub struct Cut {
+    pub to0: usize,
+    pub from1: usize,
+    pub to1: usize,
+    pub from2: usize,
+    pub to2: usize,
+    pub from3: usize,
+    pub to3: usize,
+    pub from4: usize,
+    pub to4: usize,
+    pub end: usize,
 }

@@ -1,11 +1,15 @@
 // What mnemonics stand for, and the operands that they take.
 ghost use mathlib.Core.Path.{_≡_};
-ghost use Prim.Native.Nat.{_≤_, _<_};
+ghost use Prim.Native.Nat.{_+_, _≤_, _<_, _^_};
+ghost use mathlib.Core.Bool.{cond};
+ghost use lib.Dec.{ltb};
+ghost use Rattle.text.specs.Digits.{valueOf};
+ghost use Rattle.text.specs.Words.{ascii};
 ghost use Rattle.forms.specs.Form.{mnemonics, byteOf, whatAt, kindShape, shapeOf, below, numberedOf, fieldsOf, tabsFor};
+ghost use Rattle.forms.specs.Parts.{withEntry, slots, placeIn};
 use crate::Shape;
 use crate::Sort;
 use crate::What;
-use crate::fields::end_part;
 use isa::Kind;
 
 // The names' numbers, by the places of the opcode map; then `half` and `word`.
@@ -95,10 +99,48 @@ const MNEMONICS: [u64; 83] = [
     1706824,
 ];
 
-pub fn table() -> [u64; 83]
+fn numbers() -> [u64; 83]
     ensures { λ r. ⌜ r ≡ mnemonics ⌝ }
 {
     MNEMONICS
+}
+
+// The slot of a name's number is its rest modulo 312, in which no two mnemonics agree. It holds the number and the place.
+fn put_entry(table: &mut [u64; 312], k: u64, place: usize)
+    requires { ⌜ (k < 2 ^ 32) × (place < 83) ⌝ }
+    ensures { λ _. ⌜ now (table .exit) ≡ withEntry (now (table .entry)) k place ⌝ }
+{
+    if k == 0 {
+        return;
+    }
+    let slot = (k % 312) as usize;
+    table[slot] = k * 128 + place as u64;
+}
+
+// A slot for each rest, so that a mnemonic is found at once.
+pub fn table() -> [u64; 312]
+    ensures { λ r. ⌜ r ≡ slots ⌝ }
+{
+    let names = numbers();
+    let mut table = [0u64; 312];
+    let mut place: usize = 0;
+    while place < 83 {
+        put_entry(&mut table, names[place], place);
+        place += 1;
+    }
+    table
+}
+
+// The place of a name's number; 83 where it is no mnemonic's.
+pub fn place_in(table: &[u64; 312], k: u64) -> usize
+    ensures { λ r. ⌜ r ≡ placeIn (now (table .entry)) k ⌝ }
+{
+    let slot = (k % 312) as usize;
+    let entry = table[slot];
+    if entry / 128 == k {
+        return (entry % 128) as usize;
+    }
+    83
 }
 
 fn byte_of(place: usize) -> u8
@@ -191,9 +233,42 @@ pub fn numbered(letters: &[u8], limit: u32, field: &[u8]) -> u32
 {
     let n = letters.len();
     if text::is_same(text::start_part(field, n), letters) {
-        return below_limit(limit, text::decimal(end_part(field, n)));
+        return below_limit(limit, text::decimal(text::end_part(field, n)));
     }
     limit
+}
+
+fn digit_below(limit: u32, from: u32, c: u8) -> u32
+    requires { ⌜ from + limit ≤ 16 ⌝ }
+    ensures { λ r. ⌜ r ≡ cond (ltb (valueOf c) limit) (from + valueOf c) 16 ⌝ }
+{
+    let d = text::value(c);
+    if d < limit {
+        return from + d;
+    }
+    16
+}
+
+// The number of a register. One digit, or two of which the first is 1, are read at once.
+pub fn register(field: &[u8]) -> u32
+    ensures { λ r. ⌜ r ≡ numberedOf (ascii "r") 16 (now (field .entry)) ⌝ }
+{
+    if field.len() == 2 {
+        if field[0] == 114 {
+            return digit_below(10, 0, field[1]);
+        }
+        return 16;
+    }
+    if field.len() == 3 {
+        if field[1] == 49 {
+            if field[0] == 114 {
+                return digit_below(6, 10, field[2]);
+            }
+            return 16;
+        }
+        return numbered(b"r", 16, field);
+    }
+    numbered(b"r", 16, field)
 }
 
 fn fields_of(s: Sort) -> usize

@@ -15,7 +15,7 @@ use Rattle.isa.specs.declared.Instr.{Instr}
 use Rattle.marks.specs.Memory.{markedAt}
 use Rattle.instruction.specs.Fetch.{halfAt, afterHalf, guarded, found, fetchOf}
 use Rattle.instruction.specs.Parts.{halfOf, firstHalf, secondHalf, decodedTo, bySecond, restBy, byFirst}
-use Rattle.instruction.specs.declared.Reply.{Reply}
+use Rattle.instruction.specs.declared.Halt.{Halt}
 use Rattle.instruction.specs.declared.Fetched.{Fetched}
 use Rattle.instruction.specs.declared.Half.{Half}
 
@@ -25,8 +25,8 @@ by-second d h a m k x e = ap (λ (y : Half). bySecond y d h) e
 
 -- a half's two tests, before what comes of it
 tests : (t u : Bool) (d : Kind) (h s : ℕ)
-    → cond t Fetched.Outside (cond u (Fetched.Stop Reply.FetchMarked) (decodedTo (operandsOf d h s)))
-    ≡ bySecond (cond t Half.Outside (cond u (Half.Stop Reply.FetchMarked) (Half.Bits s))) d h
+    → cond t (Fetched.Halted Halt.FetchOutside) (cond u (Fetched.Halted Halt.FetchMarked) (decodedTo (operandsOf d h s)))
+    ≡ bySecond (cond t (Half.Halted Halt.FetchOutside) (cond u (Half.Halted Halt.FetchMarked) (Half.Bits s))) d h
 tests true u d h s = refl
 tests false true d h s = refl
 tests false false d h s = refl
@@ -69,13 +69,13 @@ found-by-kind h a m k = go (kindOf (h / 256))
 pub fetch-by-parts : (a : ByteAddr) (m k : List ℕ) → fetchOf a m k ≡ byFirst (firstHalf a m k) a m k
 unfolding fetchOf firstHalf halfOf
 fetch-by-parts a m k =
-    ap (λ (x : Fetched). cond (eqb (a .0 % 2) 1) (Fetched.Stop Reply.NoInstruction) (guarded a m k x)) (found-by-kind (halfAt m a) a m k)
+    ap (λ (x : Fetched). cond (eqb (a .0 % 2) 1) (Fetched.Halted Halt.NoInstruction) (guarded a m k x)) (found-by-kind (halfAt m a) a m k)
     ∙ go (eqb (a .0 % 2) 1) (not (inside m a 2)) (markedAt Width.Half k a)
   where
     go : (o t u : Bool)
-        → cond o (Fetched.Stop Reply.NoInstruction)
-        (cond t Fetched.Outside (cond u (Fetched.Stop Reply.FetchMarked) (restBy (kindOf (halfAt m a / 256)) (halfAt m a) a m k)))
-        ≡ byFirst (cond o (Half.Stop Reply.NoInstruction) (cond t Half.Outside (cond u (Half.Stop Reply.FetchMarked) (Half.Bits (halfAt m a))))) a m k
+        → cond o (Fetched.Halted Halt.NoInstruction)
+        (cond t (Fetched.Halted Halt.FetchOutside) (cond u (Fetched.Halted Halt.FetchMarked) (restBy (kindOf (halfAt m a / 256)) (halfAt m a) a m k)))
+        ≡ byFirst (cond o (Half.Halted Halt.NoInstruction) (cond t (Half.Halted Halt.FetchOutside) (cond u (Half.Halted Halt.FetchMarked) (Half.Bits (halfAt m a))))) a m k
     go true t u = refl
     go false true u = refl
     go false false true = refl

@@ -19,7 +19,7 @@ use Rattle.isa.proofs.Theorems.{short-encodes, long-encodes}
 use Rattle.marks.specs.Memory.{markedAt}
 use Rattle.instruction.specs.Fetch.{halfAt, afterHalf, found, fetchOf}
 use Rattle.instruction.specs.Statements.{decodedAt, Is, short, long, At, two, four}
-use Rattle.instruction.specs.declared.Reply.{Reply}
+use Rattle.instruction.specs.declared.Halt.{Halt}
 use Rattle.instruction.specs.declared.Fetched.{Fetched}
 
 module _ (a : ByteAddr) (m k : List ℕ) where
@@ -29,14 +29,14 @@ module _ (a : ByteAddr) (m k : List ℕ) where
   runs-what-decodes i e = go (eqb (a .0 % 2) 1) (not (inside m a 2)) (markedAt Width.Half k a) (decodedAt m a) e
     where
       second : (t u : Bool) (j : Instr)
-          → cond t Fetched.Outside (cond u (Fetched.Stop Reply.FetchMarked) (Fetched.Run j)) ≡ Fetched.Run i → Is i (Decoded.Long j)
+          → cond t (Fetched.Halted Halt.FetchOutside) (cond u (Fetched.Halted Halt.FetchMarked) (Fetched.Run j)) ≡ Fetched.Run i → Is i (Decoded.Long j)
       second true u j p = let z : _≡_ {A = ℕ} 0 1 = cc in absurd (omega arith)
       second false true j p = let z : _≡_ {A = ℕ} 0 1 = cc in absurd (omega arith)
       second false false j p = let q : i ≡ j = cc in subst (λ (n : Instr). Is i (Decoded.Long n)) q long
 
       go : (o t u : Bool) (d : Decoded)
-          → cond o (Fetched.Stop Reply.NoInstruction)
-          (cond t Fetched.Outside (cond u (Fetched.Stop Reply.FetchMarked) (found d (afterHalf a) m k)))
+          → cond o (Fetched.Halted Halt.NoInstruction)
+          (cond t (Fetched.Halted Halt.FetchOutside) (cond u (Fetched.Halted Halt.FetchMarked) (found d (afterHalf a) m k)))
           ≡ Fetched.Run i
           → Is i d
       go true t u d p = let z : _≡_ {A = ℕ} 0 1 = cc in absurd (omega arith)
@@ -59,20 +59,20 @@ module _ (a : ByteAddr) (m k : List ℕ) where
       go d long p = subst (At m a) (sym (long-encodes _ _ i (fits a) (fits (afterHalf a)) p)) four
 
   -- 2. At an even address the fetch stops with 13 only if the halves there decode to nothing ..
-  pub thirteen-only-if-nothing : eqb (a .0 % 2) 1 ≡ false → fetchOf a m k ≡ Fetched.Stop Reply.NoInstruction → decodedAt m a ≡ Decoded.Nothing
+  pub thirteen-only-if-nothing : eqb (a .0 % 2) 1 ≡ false → fetchOf a m k ≡ Fetched.Halted Halt.NoInstruction → decodedAt m a ≡ Decoded.Nothing
   unfolding fetchOf
   thirteen-only-if-nothing o e = go (not (inside m a 2)) (markedAt Width.Half k a) (decodedAt m a) (rw o at e)
     where
       second : (t u : Bool) (j : Instr)
-          → cond t Fetched.Outside (cond u (Fetched.Stop Reply.FetchMarked) (Fetched.Run j)) ≡ Fetched.Stop Reply.NoInstruction
+          → cond t (Fetched.Halted Halt.FetchOutside) (cond u (Fetched.Halted Halt.FetchMarked) (Fetched.Run j)) ≡ Fetched.Halted Halt.NoInstruction
           → Decoded.Long j ≡ Decoded.Nothing
       second true u j p = let z : _≡_ {A = ℕ} 0 1 = cc in absurd (omega arith)
       second false true j p = let z : _≡_ {A = ℕ} 0 1 = cc in absurd (omega arith)
       second false false j p = let z : _≡_ {A = ℕ} 0 1 = cc in absurd (omega arith)
 
       go : (t u : Bool) (d : Decoded)
-          → cond t Fetched.Outside (cond u (Fetched.Stop Reply.FetchMarked) (found d (afterHalf a) m k))
-          ≡ Fetched.Stop Reply.NoInstruction
+          → cond t (Fetched.Halted Halt.FetchOutside) (cond u (Fetched.Halted Halt.FetchMarked) (found d (afterHalf a) m k))
+          ≡ Fetched.Halted Halt.NoInstruction
           → d ≡ Decoded.Nothing
       go true u d p = let z : _≡_ {A = ℕ} 0 1 = cc in absurd (omega arith)
       go false true d p = let z : _≡_ {A = ℕ} 0 1 = cc in absurd (omega arith)
@@ -82,10 +82,10 @@ module _ (a : ByteAddr) (m k : List ℕ) where
 
   -- .. and, where the first half can be read, if they do.
   pub nothing-stops-with-13 : inside m a 2 ≡ true → markedAt Width.Half k a ≡ false → decodedAt m a ≡ Decoded.Nothing
-      → fetchOf a m k ≡ Fetched.Stop Reply.NoInstruction
+      → fetchOf a m k ≡ Fetched.Halted Halt.NoInstruction
   unfolding fetchOf
   nothing-stops-with-13 t u d = rw (t, u, d) (go (eqb (a .0 % 2) 1))
     where
-      go : (o : Bool) → cond o (Fetched.Stop Reply.NoInstruction) (Fetched.Stop Reply.NoInstruction) ≡ Fetched.Stop Reply.NoInstruction
+      go : (o : Bool) → cond o (Fetched.Halted Halt.NoInstruction) (Fetched.Halted Halt.NoInstruction) ≡ Fetched.Halted Halt.NoInstruction
       go true = refl
       go false = refl

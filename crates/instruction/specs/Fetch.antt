@@ -1,5 +1,5 @@
--- The fetch of an instruction (document 01: "first half outside, first half marked, not an instruction, second half outside, second half marked";
--- "A program counter found odd inside a run answers 13, before all these"). A half outside memory is a bus error (document 02, ticket 5).
+-- The fetch of an instruction, or why it is not done (document 01: "first half outside, first half marked, not an instruction, second half outside, second
+-- half marked"; "A program counter found odd inside a run answers 13, before all these"). What comes of that says crate machine, `haltStep`.
 -- Assumes nothing.
 use Prim.Native.Nat.{ℕ}
 use mathlib.Core.Bool.{cond, not}
@@ -11,7 +11,7 @@ use Rattle.word.specs.declared.Width.{Width}
 use Rattle.isa.specs.Decode.{decodeOf}
 use Rattle.isa.specs.declared.Decoded.{Decoded}
 use Rattle.marks.specs.Memory.{markedAt}
-use Rattle.instruction.specs.declared.Reply.{Reply}
+use Rattle.instruction.specs.declared.Halt.{Halt}
 use Rattle.instruction.specs.declared.Fetched.{Fetched}
 
 -- the half at a, and the address of the half after it
@@ -24,16 +24,16 @@ afterHalf a = byteSum a 2
 -- a half at a is read: "outside", "marked", or what comes of it
 abbrev pub guarded : ByteAddr → List ℕ → List ℕ → Fetched → Fetched
 guarded a m k x =
-    cond (not (inside m a (bytesOf Width.Half))) Fetched.Outside
-    (cond (markedAt Width.Half k a) (Fetched.Stop Reply.FetchMarked) x)
+    cond (not (inside m a (bytesOf Width.Half))) (Fetched.Halted Halt.FetchOutside)
+    (cond (markedAt Width.Half k a) (Fetched.Halted Halt.FetchMarked) x)
 
 -- what the halves decode to; b is where the second one is, which only an instruction of four bytes has
 abbrev pub found : Decoded → ByteAddr → List ℕ → List ℕ → Fetched
 found (Decoded.Short i) b m k = Fetched.Run i
 found (Decoded.Long i) b m k = guarded b m k (Fetched.Run i)
-found Decoded.Nothing b m k = Fetched.Stop Reply.NoInstruction
+found Decoded.Nothing b m k = Fetched.Halted Halt.NoInstruction
 
 unfoldable pub fetchOf : ByteAddr → List ℕ → List ℕ → Fetched
 fetchOf a m k =
-    cond (isOdd a) (Fetched.Stop Reply.NoInstruction)
+    cond (isOdd a) (Fetched.Halted Halt.NoInstruction)
     (guarded a m k (found (decodeOf (halfAt m a) (halfAt m (afterHalf a))) (afterHalf a) m k))

@@ -18,8 +18,8 @@ use Rattle.marks.specs.Marks.{with}
 use Rattle.marks.specs.Memory.{markedAt}
 use Rattle.marks.specs.declared.Flags.{Flags}
 use Rattle.instruction.specs.Fetch.{halfAt, afterHalf}
-use Rattle.instruction.specs.Act.{Val, missing}
-use Rattle.instruction.specs.declared.Reply.{Reply}
+use Rattle.instruction.specs.Act.{Val}
+use Rattle.instruction.specs.declared.Halt.{Halt}
 use Rattle.instruction.specs.declared.Fetched.{Fetched}
 use Rattle.instruction.specs.declared.Half.{Half}
 use Rattle.instruction.specs.declared.Reach.{Reach}
@@ -34,14 +34,14 @@ flags tf cy = record { tf = tf; cy = cy }
 
 -- ---- a fetch in two parts: the first half, and the rest by its kind
 
--- the half at a, or its stop
+-- the half at a, or why it cannot be read
 unfoldable pub halfOf : ByteAddr → List ℕ → List ℕ → Half
 halfOf a m k =
-    cond (not (inside m a (bytesOf Width.Half))) Half.Outside
-    (cond (markedAt Width.Half k a) (Half.Stop Reply.FetchMarked) (Half.Bits (halfAt m a)))
+    cond (not (inside m a (bytesOf Width.Half))) (Half.Halted Halt.FetchOutside)
+    (cond (markedAt Width.Half k a) (Half.Halted Halt.FetchMarked) (Half.Bits (halfAt m a)))
 
 unfoldable pub firstHalf : ByteAddr → List ℕ → List ℕ → Half
-firstHalf a m k = cond (isOdd a) (Half.Stop Reply.NoInstruction) (halfOf a m k)
+firstHalf a m k = cond (isOdd a) (Half.Halted Halt.NoInstruction) (halfOf a m k)
 
 -- the kinds of four bytes
 abbrev pub isLongKind : Kind → Bool
@@ -72,11 +72,10 @@ secondHalf d a m k = cond (isLongKind d) (halfOf a m k) (Half.Bits 0)
 abbrev pub decodedTo : Decoded → Fetched
 decodedTo (Decoded.Short i) = Fetched.Run i
 decodedTo (Decoded.Long i) = Fetched.Run i
-decodedTo Decoded.Nothing = Fetched.Stop Reply.NoInstruction
+decodedTo Decoded.Nothing = Fetched.Halted Halt.NoInstruction
 
 abbrev pub bySecond : Half → Kind → ℕ → Fetched
-bySecond (Half.Stop r) d h = Fetched.Stop r
-bySecond Half.Outside d h = Fetched.Outside
+bySecond (Half.Halted r) d h = Fetched.Halted r
 bySecond (Half.Bits s) d h = decodedTo (operandsOf d h s)
 
 -- the first half is h, at a, and of kind d
@@ -85,18 +84,17 @@ restBy d h a m k = bySecond (secondHalf d (afterHalf a) m k) d h
 
 -- the fetch by its first half
 abbrev pub byFirst : Half → ByteAddr → List ℕ → List ℕ → Fetched
-byFirst (Half.Stop r) a m k = Fetched.Stop r
-byFirst Half.Outside a m k = Fetched.Outside
+byFirst (Half.Halted r) a m k = Fetched.Halted r
 byFirst (Half.Bits h) a m k = restBy (kindOf (h / 256)) h a m k
 
 -- ---- a load of register d and a store, at an address
 
 abbrev pub loadAct : Width → ByteAddr → ℕ → Flags → Control → List ℕ → List ℕ → Act
 loadAct w a d f c m k =
-    cond (not (inside m a (bytesOf w))) (missing (Reach.Outside a) f c)
+    cond (not (inside m a (bytesOf w))) (Act.Halted Halt.DataOutside)
     (Act.Does (exec (Instr.Ldrpc d 0) 0 0 (loadOf w m a) c) (with (markedAt w k a) f) (Reach.Reads w a))
 
 abbrev pub storeAct : Width → ByteAddr → Flags → Control → List ℕ → Act
 storeAct w a f c m =
-    cond (not (inside m a (bytesOf w))) (missing (Reach.Outside a) f c)
+    cond (not (inside m a (bytesOf w))) (Act.Halted Halt.DataOutside)
     (Act.Does (exec (Instr.Store Width.Byte 0 0 0) 0 0 0 c) (with false f) (Reach.Writes w a))

@@ -1,4 +1,4 @@
-// What an instruction does or why it stops, one function for each class. The operands' values u and v, their marks mu and mv, and the marks of TF and CY
+// What an instruction does or why it is not done, one function for each class. The operands' values u and v, their marks mu and mv, and the marks of TF and CY
 // are passed apart: as a struct of 8 bytes or less each would be packed and unpacked on the way.
 ghost use mathlib.Core.Path.{_≡_};
 ghost use mathlib.Core.Bool.{false, cond, _||_};
@@ -8,14 +8,14 @@ ghost use Rattle.word.specs.declared.Width.{Width};
 ghost use Rattle.isa.specs.declared.Instr.{Instr};
 ghost use Rattle.cpu.specs.Exec.{exec, dataAddress};
 ghost use Rattle.marks.specs.Marks.{with, taint, shortBlocked, longBlocked};
-ghost use Rattle.instruction.specs.Act.{missing, actOf};
+ghost use Rattle.instruction.specs.Act.{actOf};
 ghost use Rattle.instruction.specs.Parts.{val, flags, loadAct, storeAct};
-ghost use Rattle.instruction.specs.declared.Reply.{Reply};
+ghost use Rattle.instruction.specs.declared.Halt.{Halt};
 ghost use Rattle.instruction.specs.declared.Reach.{Reach};
 ghost use Rattle.instruction.specs.declared.Act.{Act};
 use crate::Act;
+use crate::Halt;
 use crate::Reach;
-use crate::Reply;
 use cpu::Control;
 use cpu::Effect;
 use isa::AluOp;
@@ -30,10 +30,10 @@ use word::HalfDisp;
 use word::Width;
 
 fn stop_if(t: bool, a: Act) -> Act
-    ensures { λ r. ⌜ r ≡ cond t (Act.Stop Reply.MarkedOperand) a ⌝ }
+    ensures { λ r. ⌜ r ≡ cond t (Act.Halted Halt.MarkedOperand) a ⌝ }
 {
     if t {
-        Act::Stop(Reply::MarkedOperand)
+        Act::Halted(Halt::MarkedOperand)
     } else {
         a
     }
@@ -51,12 +51,11 @@ fn keep(tf: bool, cy: bool) -> Taint
     marks::mark_reg(false, tf, cy)
 }
 
-// "operand marked, data outside": a marked base stops before its address is a bus error.
-fn miss(marked: bool, at: ByteAddr, tf: bool, cy: bool, c: Control) -> Act
-    ensures { λ r. ⌜ r ≡ cond marked (Act.Stop Reply.MarkedOperand) (missing (Reach.Outside at) (flags tf cy) c) ⌝ }
+// "operand marked, data outside": a marked base is told before its address.
+fn halt_outside(marked: bool) -> Act
+    ensures { λ r. ⌜ r ≡ cond marked (Act.Halted Halt.MarkedOperand) (Act.Halted Halt.DataOutside) ⌝ }
 {
-    let a = Act::Does(cpu::stored(c), keep(tf, cy), Reach::Outside(at));
-    stop_if(marked, a)
+    stop_if(marked, Act::Halted(Halt::DataOutside))
 }
 
 fn load_at(
@@ -70,18 +69,18 @@ fn load_at(
     m: &[u8],
     mk: &[u8],
 ) -> Act
-    ensures { λ r. ⌜ r ≡ cond marked (Act.Stop Reply.MarkedOperand) (loadAct w at d (flags tf cy) c (now (m .entry)) (now (mk .entry))) ⌝ }
+    ensures { λ r. ⌜ r ≡ cond marked (Act.Halted Halt.MarkedOperand) (loadAct w at d (flags tf cy) c (now (m .entry)) (now (mk .entry))) ⌝ }
 {
     if word::is_inside(w, m, at) {
         let e = cpu::loaded(d, word::load(w, m, at), c);
         let t = marks::mark_reg(marks::is_marked(w, mk, at), tf, cy);
         return stop_if(marked, Act::Does(e, t, Reach::Reads(w, at)));
     }
-    miss(marked, at, tf, cy, c)
+    halt_outside(marked)
 }
 
 fn store_at(marked: bool, w: Width, at: ByteAddr, tf: bool, cy: bool, c: Control, m: &[u8]) -> Act
-    ensures { λ r. ⌜ r ≡ cond marked (Act.Stop Reply.MarkedOperand) (storeAct w at (flags tf cy) c (now (m .entry))) ⌝ }
+    ensures { λ r. ⌜ r ≡ cond marked (Act.Halted Halt.MarkedOperand) (storeAct w at (flags tf cy) c (now (m .entry))) ⌝ }
 {
     if word::is_inside(w, m, at) {
         return stop_if(
@@ -89,7 +88,7 @@ fn store_at(marked: bool, w: Width, at: ByteAddr, tf: bool, cy: bool, c: Control
             Act::Does(cpu::stored(c), keep(tf, cy), Reach::Writes(w, at)),
         );
     }
-    miss(marked, at, tf, cy, c)
+    halt_outside(marked)
 }
 
 fn load_pc(d: u32, n: u32, tf: bool, cy: bool, c: Control, m: &[u8], mk: &[u8]) -> Act
@@ -111,7 +110,7 @@ fn load_on(
     m: &[u8],
     mk: &[u8],
 ) -> Act
-    ensures { λ r. ⌜ r ≡ cond mv (Act.Stop Reply.MarkedOperand) (loadAct w (dataAddress w v n) d (flags tf cy) c (now (m .entry)) (now (mk .entry))) ⌝ }
+    ensures { λ r. ⌜ r ≡ cond mv (Act.Halted Halt.MarkedOperand) (loadAct w (dataAddress w v n) d (flags tf cy) c (now (m .entry)) (now (mk .entry))) ⌝ }
 {
     let at = cpu::data_address(w, v, n);
     load_at(mv, w, at, d, tf, cy, c, m, mk)
@@ -135,14 +134,14 @@ fn alu_on(
 }
 
 fn short_on(op: ShortOp, d: HalfDisp, tf: bool, cy: bool, c: Control) -> Act
-    ensures { λ r. ⌜ r ≡ cond (shortBlocked op (flags tf cy)) (Act.Stop Reply.MarkedOperand) (Act.Does (exec (Instr.ShortJump op d) 0 0 0 c) (with false (flags tf cy)) Reach.Nowhere) ⌝ }
+    ensures { λ r. ⌜ r ≡ cond (shortBlocked op (flags tf cy)) (Act.Halted Halt.MarkedOperand) (Act.Does (exec (Instr.ShortJump op d) 0 0 0 c) (with false (flags tf cy)) Reach.Nowhere) ⌝ }
 {
     let e = cpu::short_jump(op, d, c);
     stop_if(marks::is_short_blocked(op, tf, cy), does(e, keep(tf, cy)))
 }
 
 fn long_on(op: LongOp, d: HalfDisp, tf: bool, cy: bool, c: Control) -> Act
-    ensures { λ r. ⌜ r ≡ cond (longBlocked op (flags tf cy)) (Act.Stop Reply.MarkedOperand) (Act.Does (exec (Instr.LongJump op d) 0 0 0 c) (with false (flags tf cy)) Reach.Nowhere) ⌝ }
+    ensures { λ r. ⌜ r ≡ cond (longBlocked op (flags tf cy)) (Act.Halted Halt.MarkedOperand) (Act.Does (exec (Instr.LongJump op d) 0 0 0 c) (with false (flags tf cy)) Reach.Nowhere) ⌝ }
 {
     let e = cpu::long_jump(op, d, c);
     stop_if(marks::is_long_blocked(op, tf, cy), does(e, keep(tf, cy)))

@@ -5,7 +5,7 @@ ghost use Rattle.instruction.specs.Fetch.{halfAt, fetchOf};
 ghost use Rattle.instruction.specs.Parts.{halfOf, firstHalf, isLongKind, secondHalf, decodedTo, restBy};
 use crate::Fetched;
 use crate::Half;
-use crate::Reply;
+use crate::Halt;
 use isa::Decoded;
 use isa::Kind;
 use word::ByteAddr;
@@ -22,11 +22,11 @@ fn read_half(at: ByteAddr, m: &[u8], mk: &[u8]) -> Half
 {
     if word::is_inside(Width::Half, m, at) {
         if marks::is_marked(Width::Half, mk, at) {
-            return Half::Stop(Reply::FetchMarked);
+            return Half::Halted(Halt::FetchMarked);
         }
         return Half::Bits(half_at(m, at));
     }
-    Half::Outside
+    Half::Halted(Halt::FetchOutside)
 }
 
 // The first half, or why it cannot be read; `rest_at` goes on from it.
@@ -34,7 +34,7 @@ pub fn first_half(at: ByteAddr, m: &[u8], mk: &[u8]) -> Half
     ensures { λ r. ⌜ r ≡ firstHalf at (now (m .entry)) (now (mk .entry)) ⌝ }
 {
     if word::is_odd(at) {
-        return Half::Stop(Reply::NoInstruction);
+        return Half::Halted(Halt::NoInstruction);
     }
     read_half(at, m, mk)
 }
@@ -81,7 +81,7 @@ fn decoded(d: Decoded) -> Fetched
     match d {
         Decoded::Short(i) => Fetched::Run(i),
         Decoded::Long(i) => Fetched::Run(i),
-        Decoded::Nothing => Fetched::Stop(Reply::NoInstruction),
+        Decoded::Nothing => Fetched::Halted(Halt::NoInstruction),
     }
 }
 
@@ -90,8 +90,7 @@ pub fn rest_at(d: Kind, first: u16, at: ByteAddr, m: &[u8], mk: &[u8]) -> Fetche
 {
     let s = second_half(d, word::byte_sum(at, 2), m, mk);
     match s {
-        Half::Stop(r) => Fetched::Stop(r),
-        Half::Outside => Fetched::Outside,
+        Half::Halted(r) => Fetched::Halted(r),
         Half::Bits(second) => decoded(isa::operands(d, first, second)),
     }
 }
@@ -102,8 +101,7 @@ pub fn fetch(at: ByteAddr, m: &[u8], mk: &[u8]) -> Fetched
 {
     let h = first_half(at, m, mk);
     match h {
-        Half::Stop(r) => Fetched::Stop(r),
-        Half::Outside => Fetched::Outside,
+        Half::Halted(r) => Fetched::Halted(r),
         Half::Bits(first) => rest_at(isa::kind_of((first / 256) as u8), first, at, m, mk),
     }
 }

@@ -1,4 +1,4 @@
-// One instruction with marks: its fetch, with the order of its stops, and what it does or why it stops.
+// One instruction with marks: its fetch, with the order of its tests, and what it does or why it is not done.
 pub mod classes;
 pub mod fetch;
 
@@ -23,32 +23,37 @@ pub enum Reply {
     MarkedOperand,
 }
 
-// What a fetch finds; outside memory it is a bus error.
+// Why an instruction is not done, in the order of the tests. An access outside memory is a bus error; the others stop the run.
+pub enum Halt {
+    FetchOutside,
+    FetchMarked,
+    NoInstruction,
+    MarkedOperand,
+    DataOutside,
+}
+
 pub enum Fetched {
-    Stop(Reply),
-    Outside,
+    Halted(Halt),
     Run(Instr),
 }
 
 // Half an instruction, or why it cannot be read.
 pub enum Half {
-    Stop(Reply),
-    Outside,
+    Halted(Halt),
     Bits(u16),
 }
 
-// What an instruction reaches beside the registers: memory, an address outside it, or the entry of a swint.
+// What an instruction reaches beside the registers: memory, or the entry of a swint.
 pub enum Reach {
     Nowhere,
     Reads(Width, ByteAddr),
     Writes(Width, ByteAddr),
-    Outside(ByteAddr),
     Raises(u32),
 }
 
-// One instruction: it stops, or has an effect, marks, and a place that it reaches.
+// One instruction: it is not done, or has an effect, marks, and a place that it reaches.
 pub enum Act {
-    Stop(Reply),
+    Halted(Halt),
     Does(Effect, Taint, Reach),
 }
 

@@ -20,24 +20,25 @@ use Rattle.isa.specs.declared.LongOp.{LongOp}
 use Rattle.isa.specs.declared.Instr.{Instr}
 use Rattle.cpu.specs.Control.{pcOf, withPc, withSfr, withPsw, withHwdbg, withPending, withTimer, withCycles, withTf, tf, cy, wants, sfrOf}
 use Rattle.cpu.specs.Entries.{vector, enter, entered, fallen}
-use Rattle.cpu.specs.Exec.{onward, goTo, linked, jump, branch, shortJump, longJump, carried, cmpOf, cmpImmOf, accepted, timerWritten, pswWritten, written, leave, moves, exec, sourcesOf}
+use Rattle.cpu.specs.Exec.{onward, goTo, linked, jump, branch, shortJump, longJump, carried, cmpOf, cmpImmOf, accepted, timerWritten, pswWritten, written, leave, exec, sourcesOf}
 use Rattle.cpu.specs.declared.Control.{Control}
 use Rattle.cpu.specs.declared.Effect.{Effect}
 use Rattle.cpu.specs.declared.Entry.{Entry}
-use Rattle.marks.specs.Marks.{with, taint, blocked}
+use Rattle.marks.specs.Marks.{taint, blocked}
 use Rattle.marks.specs.declared.Flags.{Flags}
 use Rattle.marks.specs.declared.Taint.{Taint}
 use Rattle.instruction.specs.Fetch.{fetchOf}
-use Rattle.instruction.specs.Act.{Val, reachOf, outside, missed, missing, loadedFrom, loadedMark, actOf}
-use Rattle.instruction.specs.declared.Reply.{Reply}
+use Rattle.instruction.specs.Act.{Val, reachOf, outside, loadedFrom, loadedMark, actOf}
+use Rattle.instruction.specs.declared.Halt.{Halt}
 use Rattle.instruction.specs.declared.Fetched.{Fetched}
 use Rattle.instruction.specs.declared.Reach.{Reach}
 use Rattle.instruction.specs.declared.Act.{Act}
 use Rattle.machine.specs.State.{valueAt}
-use Rattle.machine.specs.Step.{Stepped, stopped, completed, chosen, entryBy, entryDone, entryStep, doneOf, actStep, instrStep, fetchStep, eventStep, stepOf, after}
+use Rattle.machine.specs.Step.{Stepped, stopped, completed, chosen, entryBy, entryDone, doneOf, haltStep, actStep, instrStep, fetchStep, eventStep, stepOf, after}
 use Rattle.machine.specs.Run.{runOf}
 use Rattle.machine.specs.declared.State.{State}
 use Rattle.machine.specs.declared.Event.{Event}
+use Rattle.machine.specs.declared.Data.{Data}
 use Rattle.laws.specs.Form.{Form}
 use Rattle.laws.proofs.Every.{After, run-every}
 
@@ -264,45 +265,49 @@ abbrev Kept : Stepped → Type 0
 Kept (stopped r) = Unit {0}
 Kept (completed d m k x) = Form (d .control)
 
-does : (e : Effect) (n : Taint) (r : Reach) (x : Val) (c : Control) (m k : List ℕ) → Form (e .control) → Kept (actStep (Act.Does e n r) x c m k)
+enters-kept : (e : Entry) (f : Flags) (c : Control) → Form c → Form (entryDone e f c .control)
+unfolding entryDone
+enters-kept e f c g = falls _ (entries e c g) (on (c .psw) 4)
+
+halt-keeps : (h : Halt) (a : Data) (f : Flags) (c : Control) (m k : List ℕ) → Form c → Kept (haltStep h a f c m k)
+halt-keeps Halt.FetchOutside a f c m k g = enters-kept Entry.FetchError f c g
+halt-keeps Halt.FetchMarked a f c m k g = tt
+halt-keeps Halt.NoInstruction a f c m k g = tt
+halt-keeps Halt.MarkedOperand a f c m k g = tt
+halt-keeps Halt.DataOutside a f c m k g = enters-kept Entry.DataError f (onward 2 c) (onwards c g 2 refl)
+
+acted : (t u : Bool) (p q : Halt) (e : Effect) (n : Taint) (r : Reach) (a : Data) (x : Val) (f : Flags) (c : Control) (m k : List ℕ) → Form c → Form (e .control)
+    → Kept (actStep (cond t (Act.Halted p) (cond u (Act.Halted q) (Act.Does e n r))) a x f c m k)
 unfolding doneOf
-does e n r x c m k f =
-    falls (entered (entryBy r (e .control)) (e .control)) (entries (entryBy r (e .control)) (e .control) f) (on (c .psw) 4 && not (e .wrote))
+acted true u p q e n r a x f c m k i g = halt-keeps p a f c m k i
+acted false true p q e n r a x f c m k i g = halt-keeps q a f c m k i
+acted false false p q e n r a x f c m k i g =
+    falls (entered (entryBy r (e .control)) (e .control)) (entries (entryBy r (e .control)) (e .control) g) (on (c .psw) 4 && not (e .wrote))
 
-acted : (t u : Bool) (p : Reply) (e : Effect) (n : Taint) (r : Reach) (g : Flags) (x : Val) (c : Control) (m k : List ℕ) → Form c → Form (e .control)
-    → Kept (actStep (cond t (Act.Stop p) (cond u (missing r g c) (Act.Does e n r))) x c m k)
-acted true u p e n r g x c m k i f = tt
-acted false true p e n r g x c m k i f = does (moves (onward 2 c)) (with false g) (missed r) x c m k (onwards c i 2 refl)
-acted false false p e n r g x c m k i f = does e n r x c m k f
-
-acts : (i : Instr) (x y : Val) (f : Flags) (c : Control) (m k : List ℕ) → Form c → Kept (actStep (actOf i x y f c m k) x c m k)
+acts : (i : Instr) (a : Data) (x y : Val) (f : Flags) (c : Control) (m k : List ℕ) → Form c → Kept (actStep (actOf i x y f c m k) a x f c m k)
 unfolding actOf
-acts i x y f c m k g =
+acts i a x y f c m k g =
     let r : Reach = reachOf i (y .value) c in
-    acted (blocked i (y .mark) f) (outside r m) Reply.MarkedOperand
+    acted (blocked i (y .mark) f) (outside r m) Halt.MarkedOperand Halt.DataOutside
     (exec i (x .value) (y .value) (loadedFrom r m) c)
     (taint i (x .mark) (y .mark) (loadedMark r k) (tf c) f)
     r
-    f
+    a
     x
+    f
     c
     m
     k
     g
     (executes c g i (x .value) (y .value) (loadedFrom r m))
 
-enters-kept : (e : Entry) (g : Flags) (c : Control) (m k : List ℕ) → Form c → Kept (entryStep e g c m k)
-unfolding entryDone
-enters-kept e g c m k f = falls _ (entries e c f) (on (c .psw) 4)
-
 fetches : (x : Fetched) (s : State) (m k : List ℕ) → Form (s .control) → Kept (fetchStep x s m k)
 unfolding instrStep
-fetches (Fetched.Stop r) s m k f = tt
-fetches Fetched.Outside s m k f = enters-kept Entry.FetchError (s .flags) (s .control) m k f
-fetches (Fetched.Run i) s m k f = acts i (valueAt s (sourcesOf i .first)) (valueAt s (sourcesOf i .second)) (s .flags) (s .control) m k f
+fetches (Fetched.Halted h) s m k f = halt-keeps h Data.Nowhere (s .flags) (s .control) m k f
+fetches (Fetched.Run i) s m k f = acts i _ (valueAt s (sourcesOf i .first)) (valueAt s (sourcesOf i .second)) (s .flags) (s .control) m k f
 
 event-keeps : (v : Event) (s : State) (m k : List ℕ) → Form (s .control) → Kept (eventStep v s m k)
-event-keeps (Event.Enter e) s m k f = enters-kept e (s .flags) (s .control) m k f
+event-keeps (Event.Enter e) s m k f = enters-kept e (s .flags) (s .control) f
 event-keeps Event.Instruction s m k f = fetches (fetchOf (pcOf (s .control)) m k) s m k f
 
 step-keeps : (t : ℕ) (s : State) (m k : List ℕ) → Form (s .control) → Kept (stepOf t s m k)

@@ -1,96 +1,61 @@
 -- A step stops with 12, 13 or 14 and nothing else; so a run gives one of the replies listed in specs/Replies.antt.
 -- Assumes nothing.
-use Prim.Native.Nat.{ℕ, zero, suc, _+_, _%_}
-use mathlib.Core.Path.{_≡_, refl}
+use Prim.Native.Nat.{ℕ, zero, suc, _+_}
 use mathlib.Core.Bool.{Bool, true, false, cond, not}
 use mathlib.Core.List.{List}
 use lib.Dec.{ltb, eqb, lit≤}
 use lib.ListN.{length, getD, take}
-use Rattle.word.specs.Bytes.{inside, anyAbove}
-use Rattle.word.specs.declared.ByteAddr.{ByteAddr}
-use Rattle.word.specs.declared.Width.{Width}
-use Rattle.isa.specs.declared.Decoded.{Decoded}
-use Rattle.isa.specs.declared.Instr.{Instr}
-use Rattle.cpu.specs.Control.{pcOf, tf}
-use Rattle.cpu.specs.Exec.{exec, sourcesOf}
+use Rattle.word.specs.Bytes.{anyAbove}
+use Rattle.cpu.specs.Control.{pcOf}
+use Rattle.cpu.specs.Exec.{sourcesOf}
 use Rattle.cpu.specs.declared.Control.{Control}
-use Rattle.cpu.specs.declared.Effect.{Effect}
-use Rattle.marks.specs.Marks.{taint, blocked}
-use Rattle.marks.specs.Memory.{markedAt, badMark}
+use Rattle.marks.specs.Memory.{badMark}
 use Rattle.marks.specs.declared.Flags.{Flags}
-use Rattle.marks.specs.declared.Taint.{Taint}
 use Rattle.instruction.specs.Reply.{numberOf}
-use Rattle.instruction.specs.Fetch.{afterHalf, guarded, found, fetchOf}
-use Rattle.instruction.specs.Act.{Val, reachOf, outside, missing, loadedFrom, loadedMark, actOf}
-use Rattle.instruction.specs.Statements.{decodedAt}
-use Rattle.instruction.specs.declared.Reply.{Reply}
+use Rattle.instruction.specs.Fetch.{fetchOf}
+use Rattle.instruction.specs.Act.{Val, reachOf, actOf}
+use Rattle.instruction.specs.declared.Halt.{Halt}
 use Rattle.instruction.specs.declared.Fetched.{Fetched}
-use Rattle.instruction.specs.declared.Reach.{Reach}
 use Rattle.instruction.specs.declared.Act.{Act}
 use Rattle.machine.specs.State.{valueAt, outOfForm}
-use Rattle.machine.specs.Step.{Stepped, stopped, completed, chosen, actStep, instrStep, fetchStep, eventStep, stepOf, after}
+use Rattle.machine.specs.Step.{Stepped, stopped, completed, chosen, dataOf, haltStep, actStep, instrStep, fetchStep, eventStep, stepOf, after}
 use Rattle.machine.specs.Run.{Final, badLength, judge, goOn, stepsOf, judged, runOf}
 use Rattle.machine.specs.declared.State.{State}
 use Rattle.machine.specs.declared.Event.{Event}
+use Rattle.machine.specs.declared.Data.{Data}
 use Rattle.machine.specs.declared.Judged.{Judged}
 use Rattle.laws.specs.Replies.{Stops, fetch-marked, no-instruction, marked-operand, Replies, refused, used-up, stops}
-
-abbrev FetchStops : Fetched → Type 0
-FetchStops (Fetched.Stop r) = Stops (numberOf r)
-FetchStops Fetched.Outside = Unit {0}
-FetchStops (Fetched.Run i) = Unit {0}
 
 abbrev pub StepStops : Stepped → Type 0
 StepStops (stopped r) = Stops (numberOf r)
 StepStops (completed d m k x) = Unit {0}
 
-guarded-stops : (a : ByteAddr) (m k : List ℕ) (x : Fetched) → FetchStops x → FetchStops (guarded a m k x)
-guarded-stops a m k x p = go (not (inside m a 2)) (markedAt Width.Half k a)
-  where
-    go : (t u : Bool) → FetchStops (cond t Fetched.Outside (cond u (Fetched.Stop Reply.FetchMarked) x))
-    go true u = tt
-    go false true = fetch-marked
-    go false false = p
+halt-stops : (h : Halt) (a : Data) (f : Flags) (c : Control) (m k : List ℕ) → StepStops (haltStep h a f c m k)
+halt-stops Halt.FetchOutside a f c m k = tt
+halt-stops Halt.FetchMarked a f c m k = fetch-marked
+halt-stops Halt.NoInstruction a f c m k = no-instruction
+halt-stops Halt.MarkedOperand a f c m k = marked-operand
+halt-stops Halt.DataOutside a f c m k = tt
 
-found-stops : (d : Decoded) (b : ByteAddr) (m k : List ℕ) → FetchStops (found d b m k)
-found-stops (Decoded.Short i) b m k = tt
-found-stops (Decoded.Long i) b m k = guarded-stops b m k (Fetched.Run i) tt
-found-stops Decoded.Nothing b m k = no-instruction
+act-stops : (q : Act) (a : Data) (x : Val) (f : Flags) (c : Control) (m k : List ℕ) → StepStops (actStep q a x f c m k)
+act-stops (Act.Halted h) a x f c m k = halt-stops h a f c m k
+act-stops (Act.Does e t r) a x f c m k = tt
 
-fetch-stops : (a : ByteAddr) (m k : List ℕ) → FetchStops (fetchOf a m k)
-unfolding fetchOf
-fetch-stops a m k = go (eqb (a .0 % 2) 1)
-  where
-    x : Fetched
-    x = found (decodedAt m a) (afterHalf a) m k
-
-    go : (o : Bool) → FetchStops (cond o (Fetched.Stop Reply.NoInstruction) (guarded a m k x))
-    go true = no-instruction
-    go false = guarded-stops a m k x (found-stops (decodedAt m a) (afterHalf a) m k)
-
-act-stops : (t u : Bool) (e : Effect) (n : Taint) (r : Reach) (f : Flags) (x : Val) (c : Control) (m k : List ℕ)
-    → StepStops (actStep (cond t (Act.Stop Reply.MarkedOperand) (cond u (missing r f c) (Act.Does e n r))) x c m k)
-act-stops true u e n r f x c m k = marked-operand
-act-stops false true e n r f x c m k = tt
-act-stops false false e n r f x c m k = tt
-
-acts-stop : (i : Instr) (x y : Val) (f : Flags) (c : Control) (m k : List ℕ) → StepStops (actStep (actOf i x y f c m k) x c m k)
-unfolding actOf
-acts-stop i x y f c m k =
-    let r : Reach = reachOf i (y .value) c in
-    act-stops (blocked i (y .mark) f) (outside r m) (exec i (x .value) (y .value) (loadedFrom r m) c)
-    (taint i (x .mark) (y .mark) (loadedMark r k) (tf c) f) r f x c m k
-
-fetched-stops : (x : Fetched) (s : State) (m k : List ℕ) → FetchStops x → StepStops (fetchStep x s m k)
+fetched-stops : (x : Fetched) (s : State) (m k : List ℕ) → StepStops (fetchStep x s m k)
 unfolding instrStep
-fetched-stops (Fetched.Stop r) s m k p = p
-fetched-stops Fetched.Outside s m k p = tt
-fetched-stops (Fetched.Run i) s m k p =
-    acts-stop i (valueAt s (sourcesOf i .first)) (valueAt s (sourcesOf i .second)) (s .flags) (s .control) m k
+fetched-stops (Fetched.Halted h) s m k = halt-stops h Data.Nowhere (s .flags) (s .control) m k
+fetched-stops (Fetched.Run i) s m k =
+    act-stops (actOf i (valueAt s (sourcesOf i .first)) (valueAt s (sourcesOf i .second)) (s .flags) (s .control) m k)
+    (dataOf (reachOf i (valueAt s (sourcesOf i .second) .value) (s .control)))
+    (valueAt s (sourcesOf i .first))
+    (s .flags)
+    (s .control)
+    m
+    k
 
 event-stops : (v : Event) (s : State) (m k : List ℕ) → StepStops (eventStep v s m k)
 event-stops (Event.Enter e) s m k = tt
-event-stops Event.Instruction s m k = fetched-stops (fetchOf (pcOf (s .control)) m k) s m k (fetch-stops (pcOf (s .control)) m k)
+event-stops Event.Instruction s m k = fetched-stops (fetchOf (pcOf (s .control)) m k) s m k
 
 pub step-stops : (t : ℕ) (s : State) (m k : List ℕ) → StepStops (stepOf t s m k)
 unfolding stepOf

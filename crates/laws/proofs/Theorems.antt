@@ -20,6 +20,7 @@ use Rattle.instruction.specs.Reply.{numberOf}
 use Rattle.instruction.specs.Fetch.{fetchOf}
 use Rattle.instruction.specs.Act.{outside, actOf}
 use Rattle.instruction.specs.declared.Reply.{Reply}
+use Rattle.instruction.specs.declared.Halt.{Halt}
 use Rattle.instruction.specs.declared.Fetched.{Fetched}
 use Rattle.machine.specs.State.{valueAt, outOfForm}
 use Rattle.machine.specs.Step.{stopped, completed, chosen, dataOf, entryDone, entryStep, instrStep, stepOf}
@@ -40,7 +41,7 @@ use Rattle.laws.specs.Shows.{reachIn, Shows, Entered, Bits, Returned, ba
 use Rattle.laws.proofs.Keeps.{run-keeps}
 use Rattle.laws.proofs.Stops.{StepStops, step-stops, run-replies}
 use Rattle.laws.proofs.Cut.{cut}
-use Rattle.laws.proofs.Trace.{Told, told, missing-step, entry-bits, return-bits, run-counted, nth-line}
+use Rattle.laws.proofs.Trace.{Told, told, entry-bits, return-bits, run-counted, nth-line}
 
 -- 1. A refusal changes nothing and counts 0 steps.
 pub refusal-changes-nothing : (b : ℕ) (t : List ℕ) (s : State) (m k : List ℕ) (r : Reply)
@@ -121,7 +122,7 @@ pub an-entry-by-its-bits : (e : Entry) (c : Control) → Bits e c (entered e c)
 an-entry-by-its-bits = entry-bits
 
 -- 9. An access outside memory is a bus error, and the step completes. On a fetch the entry is made at the instruction's own address ..
-pub fetch-outside : (t : ℕ) (s : State) (m k : List ℕ) → chosen t (s .control) ≡ Event.Instruction → fetchOf (pcOf (s .control)) m k ≡ Fetched.Outside
+pub fetch-outside : (t : ℕ) (s : State) (m k : List ℕ) → chosen t (s .control) ≡ Event.Instruction → fetchOf (pcOf (s .control)) m k ≡ Fetched.Halted Halt.FetchOutside
     → stepOf t s m k ≡ entryStep Entry.FetchError (s .flags) (s .control) m k
 unfolding stepOf
 fetch-outside t s m k c f = rw (c, f)
@@ -133,8 +134,7 @@ pub data-outside : (t : ℕ) (s : State) (m k : List ℕ) (i : Instr) → chosen
     ≡ completed (entryDone Entry.DataError (s .flags) (onward 2 (s .control))) m k
     (record { pc = pcOf (s .control); entry = Entry.DataError; address = dataOf (reachIn i s) })
 unfolding stepOf instrStep actOf
-data-outside t s m k i c f b o =
-    rw (c, f, b, o) (missing-step (reachIn i s) (s .flags) (valueAt s (sourcesOf i .first)) (s .control) m k o)
+data-outside t s m k i c f b o = rw (c, f, b, o)
 
 -- 10. A step stops with 12, 13 or 14 and nothing else ..
 pub a-step-stops-with : (t : ℕ) (s : State) (m k : List ℕ) (r : Reply) → stepOf t s m k ≡ stopped r → Stops (numberOf r)

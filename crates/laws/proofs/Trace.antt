@@ -1,8 +1,8 @@
 -- The trace is what the steps gave.
 -- Assumes nothing.
 use Prim.Native.Nat.{ℕ, zero, suc, _+_, _%_, _^_, _≤_, _<_}
-use mathlib.Core.Path.{_≡_, refl, sym, ap, subst, _∙_}
-use mathlib.Core.Bool.{Bool, true, false, cond, _&&_}
+use mathlib.Core.Path.{_≡_, refl, ap, _∙_}
+use mathlib.Core.Bool.{Bool, true, false, cond, not}
 use mathlib.Core.List.{List}
 use native.Mathlib.Omega.{arith}
 use native.Mathlib.Nat.{not-suc-le-zero}
@@ -11,21 +11,24 @@ use lib.ListN.{length, getD}
 use Rattle.word.specs.Bits.{num, on, fieldOf, put, withField}
 use Rattle.word.specs.Bytes.{bytesOf, inside, store}
 use Rattle.word.specs.Numbers.{lslOf}
+use Rattle.word.specs.declared.ByteAddr.{ByteAddr}
 use Rattle.word.specs.declared.Width.{Width}
 use Rattle.word.proofs.Fields.{kept-above, kept-below, read-back}
 use Rattle.word.proofs.Memory.{store-kept}
 use Rattle.isa.specs.declared.Instr.{Instr}
+use Rattle.isa.specs.declared.Decoded.{Decoded}
 use Rattle.cpu.specs.Control.{pcOf, withPc, withSfr, withPsw, withHwdbg, withPending, tf}
 use Rattle.cpu.specs.Entries.{enter, entered}
 use Rattle.cpu.specs.Exec.{onward, goTo, leave, exec, sourcesOf}
 use Rattle.cpu.specs.declared.Control.{Control}
 use Rattle.cpu.specs.declared.Entry.{Entry}
 use Rattle.marks.specs.Marks.{taint, blocked}
-use Rattle.marks.specs.declared.Flags.{Flags}
+use Rattle.marks.specs.Memory.{markedAt}
 use Rattle.marks.specs.declared.Taint.{Taint}
-use Rattle.instruction.specs.Fetch.{fetchOf}
-use Rattle.instruction.specs.Act.{Val, outside, missing, loadedMark, actOf}
-use Rattle.instruction.specs.declared.Reply.{Reply}
+use Rattle.instruction.specs.Fetch.{afterHalf, guarded, found, fetchOf}
+use Rattle.instruction.specs.Act.{Val, outside, loadedMark, actOf}
+use Rattle.instruction.specs.Statements.{decodedAt}
+use Rattle.instruction.specs.declared.Halt.{Halt}
 use Rattle.instruction.specs.declared.Fetched.{Fetched}
 use Rattle.instruction.specs.declared.Reach.{Reach}
 use Rattle.instruction.specs.declared.Act.{Act}
@@ -59,23 +62,40 @@ stored-at (Reach.Writes w a) v m = λ i h. go (inside m a (bytesOf w)) i h
         let s = small w in
         store-kept (bytesOf w) m (a .0) v i (λ (n : ℕ) (l : n < bytesOf w) (e : i ≡ a .0 + n). h (omega arith) (omega arith))
     go false i h = refl
-stored-at (Reach.Outside a) v m = λ i h. refl
 stored-at (Reach.Raises n) v m = refl
 
--- a step that meets a bus error of data is its entry, made at the next instruction
-and-true : (b : Bool) → (b && true) ≡ b
-and-true true = refl
-and-true false = refl
+-- no fetch meets data outside memory
+abbrev FetchHalts : Fetched → Type 0
+FetchHalts (Fetched.Halted Halt.FetchOutside) = Unit {0}
+FetchHalts (Fetched.Halted Halt.FetchMarked) = Unit {0}
+FetchHalts (Fetched.Halted Halt.NoInstruction) = Unit {0}
+FetchHalts (Fetched.Halted Halt.MarkedOperand) = Unit {0}
+FetchHalts (Fetched.Halted Halt.DataOutside) = ⊥
+FetchHalts (Fetched.Run i) = Unit {0}
 
-pub missing-step : (r : Reach) (f : Flags) (x : Val) (c : Control) (m k : List ℕ) → outside r m ≡ true
-    → actStep (missing r f c) x c m k
-    ≡ completed (entryDone Entry.DataError f (onward 2 c)) m k (record { pc = pcOf c; entry = Entry.DataError; address = dataOf r })
-unfolding entryDone doneOf lineOf onward withPc
-missing-step Reach.Nowhere f x c m k o = let z : _≡_ {A = ℕ} 0 1 = cc in absurd (omega arith)
-missing-step (Reach.Reads w a) f x c m k o = rw (and-true (on (c .psw) 4))
-missing-step (Reach.Writes w a) f x c m k o = rw (and-true (on (c .psw) 4))
-missing-step (Reach.Outside a) f x c m k o = rw (and-true (on (c .psw) 4))
-missing-step (Reach.Raises n) f x c m k o = let z : _≡_ {A = ℕ} 0 1 = cc in absurd (omega arith)
+guarded-halts : (a : ByteAddr) (m k : List ℕ) (x : Fetched) → FetchHalts x → FetchHalts (guarded a m k x)
+guarded-halts a m k x p = go (not (inside m a 2)) (markedAt Width.Half k a)
+  where
+    go : (t u : Bool) → FetchHalts (cond t (Fetched.Halted Halt.FetchOutside) (cond u (Fetched.Halted Halt.FetchMarked) x))
+    go true u = tt
+    go false true = tt
+    go false false = p
+
+found-halts : (d : Decoded) (b : ByteAddr) (m k : List ℕ) → FetchHalts (found d b m k)
+found-halts (Decoded.Short i) b m k = tt
+found-halts (Decoded.Long i) b m k = guarded-halts b m k (Fetched.Run i) tt
+found-halts Decoded.Nothing b m k = tt
+
+fetch-halts : (a : ByteAddr) (m k : List ℕ) → FetchHalts (fetchOf a m k)
+unfolding fetchOf
+fetch-halts a m k = go (eqb (a .0 % 2) 1)
+  where
+    x : Fetched
+    x = found (decodedAt m a) (afterHalf a) m k
+
+    go : (o : Bool) → FetchHalts (cond o (Fetched.Halted Halt.NoInstruction) (guarded a m k x))
+    go true = tt
+    go false = guarded-halts a m k x (found-halts (decodedAt m a) (afterHalf a) m k)
 
 -- what the line of a completed step says: its program counter, its entry, and where memory changed
 module _ (t : ℕ) (s : State) (m k : List ℕ) where
@@ -83,43 +103,38 @@ module _ (t : ℕ) (s : State) (m k : List ℕ) where
   Told (stopped r) = Unit {0}
   Told (completed d l j x) = (x .pc ≡ pcOf (s .control)) × Shows t s m k d x × ChangedAt (x .address) m l
 
+  nothing-stored : (a : Data) → ChangedAt a m m
+  nothing-stored Data.Nowhere = refl
+  nothing-stored (Data.At a) = λ i h. refl
+
   module _ (i : Instr) (c : chosen t (s .control) ≡ Event.Instruction) (f : fetchOf (pcOf (s .control)) m k ≡ Fetched.Run i) where
-    nothing-stored : (x : Data) → ChangedAt x m m
-    nothing-stored Data.Nowhere = refl
-    nothing-stored (Data.At a) = λ i h. refl
-
-    missed-told : outside (reachIn i s) m ≡ true → Told (actStep (missing (reachIn i s) (s .flags) (s .control)) (valueAt s (sourcesOf i .first)) (s .control) m k)
-    unfolding entryDone onward withPc
-    missed-told o =
-        subst Told (sym (missing-step (reachIn i s) (s .flags) (valueAt s (sourcesOf i .first)) (s .control) m k o))
-        (refl, by-data i c f o refl refl refl, nothing-stored (dataOf (reachIn i s)))
-
-    acted : (b u : Bool) (p : Reply) (n : Taint) → outside (reachIn i s) m ≡ u
-        → Told (actStep (cond b (Act.Stop p) (cond u (missing (reachIn i s) (s .flags) (s .control)) (Act.Does (effectIn i s m) n (reachIn i s)))) (valueAt s (sourcesOf i .first)) (s .control) m k)
-    unfolding doneOf lineOf
-    acted true u p n o = tt
-    acted false true p n o = missed-told o
-    acted false false p n o = (refl, by-instruction i c f o refl refl, stored-at (reachIn i s) (valueAt s (sourcesOf i .first) .value) m)
+    acted : (b u : Bool) (n : Taint) → outside (reachIn i s) m ≡ u
+        → Told (actStep (cond b (Act.Halted Halt.MarkedOperand) (cond u (Act.Halted Halt.DataOutside) (Act.Does (effectIn i s m) n (reachIn i s)))) (dataOf (reachIn i s)) (valueAt s (sourcesOf i .first)) (s .flags) (s .control) m k)
+    unfolding doneOf lineOf entryDone onward withPc
+    acted true u n o = tt
+    acted false true n o = (refl, by-data i c f o refl refl refl, nothing-stored (dataOf (reachIn i s)))
+    acted false false n o = (refl, by-instruction i c f o refl refl, stored-at (reachIn i s) (valueAt s (sourcesOf i .first) .value) m)
 
     acts : Told (instrStep i s m k)
     unfolding instrStep actOf
     acts =
         let x : Val = valueAt s (sourcesOf i .first) in
         let y : Val = valueAt s (sourcesOf i .second) in
-        acted (blocked i (y .mark) (s .flags)) (outside (reachIn i s) m) Reply.MarkedOperand
-        (taint i (x .mark) (y .mark) (loadedMark (reachIn i s) k) (tf (s .control)) (s .flags))
-        refl
+        acted (blocked i (y .mark) (s .flags)) (outside (reachIn i s) m) (taint i (x .mark) (y .mark) (loadedMark (reachIn i s) k) (tf (s .control)) (s .flags)) refl
 
-  fetched : (x : Fetched) → chosen t (s .control) ≡ Event.Instruction → fetchOf (pcOf (s .control)) m k ≡ x → Told (fetchStep x s m k)
+  fetched : (x : Fetched) → FetchHalts x → chosen t (s .control) ≡ Event.Instruction → fetchOf (pcOf (s .control)) m k ≡ x → Told (fetchStep x s m k)
   unfolding entryDone
-  fetched (Fetched.Stop r) c f = tt
-  fetched Fetched.Outside c f = (refl, by-fetch c f refl refl refl, refl)
-  fetched (Fetched.Run i) c f = acts i c f
+  fetched (Fetched.Halted Halt.FetchOutside) p c f = (refl, by-fetch c f refl refl refl, refl)
+  fetched (Fetched.Halted Halt.FetchMarked) p c f = tt
+  fetched (Fetched.Halted Halt.NoInstruction) p c f = tt
+  fetched (Fetched.Halted Halt.MarkedOperand) p c f = tt
+  fetched (Fetched.Halted Halt.DataOutside) p c f = absurd p
+  fetched (Fetched.Run i) p c f = acts i c f
 
   happened : (v : Event) → chosen t (s .control) ≡ v → Told (eventStep v s m k)
   unfolding entryDone
   happened (Event.Enter e) c = (refl, by-choice c refl refl, refl)
-  happened Event.Instruction c = fetched (fetchOf (pcOf (s .control)) m k) c refl
+  happened Event.Instruction c = fetched (fetchOf (pcOf (s .control)) m k) (fetch-halts (pcOf (s .control)) m k) c refl
 
   pub told : Told (stepOf t s m k)
   unfolding stepOf

@@ -18,6 +18,7 @@ use Rattle.cpu.specs.declared.Effect.{Effect}
 use Rattle.cpu.specs.declared.Entry.{Entry}
 use Rattle.instruction.specs.Fetch.{fetchOf}
 use Rattle.instruction.specs.Act.{reachOf, outside, loadedFrom}
+use Rattle.instruction.specs.declared.Halt.{Halt}
 use Rattle.instruction.specs.declared.Fetched.{Fetched}
 use Rattle.instruction.specs.declared.Reach.{Reach}
 use Rattle.machine.specs.State.{valueAt}
@@ -46,7 +47,7 @@ pub data Shows (t : ℕ) (s : State) (m k : List ℕ) (d : Done) (x : Line) : Ty
       → outside (reachIn i s) m ≡ false → x .address ≡ dataOf (reachIn i s)
       → d .control ≡ fallen (on (s .control .psw) 4 && not (effectIn i s m .wrote)) (entered (x .entry) (effectIn i s m .control))
       → Shows t s m k d x
-  by-fetch : chosen t (s .control) ≡ Event.Instruction → fetchOf (pcOf (s .control)) m k ≡ Fetched.Outside
+  by-fetch : chosen t (s .control) ≡ Event.Instruction → fetchOf (pcOf (s .control)) m k ≡ Fetched.Halted Halt.FetchOutside
       → x .entry ≡ Entry.FetchError → x .address ≡ Data.Nowhere
       → d .control ≡ fallen (on (s .control .psw) 4) (entered Entry.FetchError (s .control))
       → Shows t s m k d x

@@ -17,33 +17,37 @@ use Rattle.isa.specs.Decode.{nibC, nibD, shortIf, operandsOf}
 use Rattle.isa.specs.declared.Kind.{Kind}
 use Rattle.isa.specs.declared.Instr.{Instr}
 use Rattle.isa.proofs.Rows.{and-left, and-right}
-use Rattle.cpu.specs.Control.{pcOf, tf}
-use Rattle.cpu.specs.Entries.{isBreak}
-use Rattle.cpu.specs.Exec.{noReg, exec, sourcesOf}
+use Rattle.cpu.specs.Control.{pcOf, withPc, tf}
+use Rattle.cpu.specs.Entries.{entered, isBreak, fallen}
+use Rattle.cpu.specs.Exec.{noReg, onward, exec, sourcesOf}
 use Rattle.cpu.specs.declared.Control.{Control}
 use Rattle.cpu.specs.declared.Effect.{Effect}
+use Rattle.cpu.specs.declared.Entry.{Entry}
 use Rattle.marks.specs.Marks.{taint, blocked}
 use Rattle.marks.specs.Memory.{badMark}
 use Rattle.marks.specs.declared.Flags.{Flags}
 use Rattle.marks.specs.declared.Taint.{Taint}
 use Rattle.instruction.specs.Fetch.{afterHalf}
-use Rattle.instruction.specs.Act.{Val, reachOf, outside, missing, loadedFrom, loadedMark, actOf}
+use Rattle.instruction.specs.Act.{Val, reachOf, outside, loadedFrom, loadedMark, actOf}
 use Rattle.instruction.specs.Parts.{firstHalf, secondHalf, decodedTo, bySecond, restBy, byFirst}
 use Rattle.instruction.specs.declared.Reply.{Reply}
+use Rattle.instruction.specs.declared.Halt.{Halt}
 use Rattle.instruction.specs.declared.Fetched.{Fetched}
 use Rattle.instruction.specs.declared.Half.{Half}
 use Rattle.instruction.specs.declared.Reach.{Reach}
 use Rattle.instruction.specs.declared.Act.{Act}
 use Rattle.instruction.proofs.Laws.{fetch-by-parts}
 use Rattle.machine.specs.State.{valueAt, outOfForm}
-use Rattle.machine.specs.Step.{Stepped, stopped, completed, lowest, chosen, storedTo, markedTo, doneOf, lineOf, entryDone, actStep, instrStep, fetchStep, eventStep, stepOf, after}
+use Rattle.machine.specs.Step.{Stepped, stopped, completed, lowest, chosen, storedTo, markedTo, dataOf, doneOf, lineOf, entryDone, haltStep, actStep, instrStep, fetchStep, eventStep, stepOf, after}
 use Rattle.machine.specs.Run.{final, goOn, stepsOf, judge, badLength}
-use Rattle.machine.specs.Parts.{stateOf, outIn, memIn, marksIn, begunHalf, begunBy, begunOf, runHalf, halfStep}
+use Rattle.machine.specs.Parts.{stateOf, stops, goes, outIn, memIn, marksIn, haltedTo, begunHalf, begunBy, begunOf, actOut, actMem, actMarks, fetchedAct, fetchedData, halfFetched, halfAct, halfStep}
 use Rattle.machine.specs.declared.State.{State}
 use Rattle.machine.specs.declared.Judged.{Judged}
 use Rattle.machine.specs.declared.Done.{Done}
 use Rattle.machine.specs.declared.Out.{Out}
 use Rattle.machine.specs.declared.Begun.{Begun}
+use Rattle.machine.specs.declared.Data.{Data}
+use Rattle.machine.specs.declared.Halted.{Halted}
 use Rattle.machine.specs.declared.Event.{Event}
 
 -- a mark that is there already
@@ -89,33 +93,27 @@ calm t c p e = quiet t c (not-true (c .pending) (and-right (eqb (fieldOf (c .hwd
 abbrev Alike : Reach → Val → Val → List ℕ → List ℕ → Type 0
 Alike r x y m k = (storedTo r (x .value) m ≡ storedTo r (y .value) m) × (markedTo r (x .mark) k ≡ markedTo r (y .mark) k)
 
--- and a load or store outside memory stores nothing
-unmissed : (r : Reach) (f : Flags) (x y : Val) (c : Control) (m k : List ℕ) → actStep (missing r f c) x c m k ≡ actStep (missing r f c) y c m k
-unmissed Reach.Nowhere f x y c m k = refl
-unmissed (Reach.Reads w a) f x y c m k = refl
-unmissed (Reach.Writes w a) f x y c m k = refl
-unmissed (Reach.Outside a) f x y c m k = refl
-unmissed (Reach.Raises n) f x y c m k = refl
+unstored : (t u : Bool) (e : Effect) (n : Taint) (r : Reach) (a : Data) (x y : Val) (f : Flags) (c : Control) (m k : List ℕ) → Alike r x y m k
+    → actStep (cond t (Act.Halted Halt.MarkedOperand) (cond u (Act.Halted Halt.DataOutside) (Act.Does e n r))) a x f c m k
+    ≡ actStep (cond t (Act.Halted Halt.MarkedOperand) (cond u (Act.Halted Halt.DataOutside) (Act.Does e n r))) a y f c m k
+unstored true u e n r a x y f c m k h = refl
+unstored false true e n r a x y f c m k h = refl
+unstored false false e n r a x y f c m k h = ap₂ (λ (a b : List ℕ). completed (doneOf c e n r) a b (lineOf c e r)) (h .0) (h .1)
 
-unstored : (t u : Bool) (e : Effect) (n : Taint) (r : Reach) (f : Flags) (x y : Val) (c : Control) (m k : List ℕ) → Alike r x y m k
-    → actStep (cond t (Act.Stop Reply.MarkedOperand) (cond u (missing r f c) (Act.Does e n r))) x c m k
-    ≡ actStep (cond t (Act.Stop Reply.MarkedOperand) (cond u (missing r f c) (Act.Does e n r))) y c m k
-unstored true u e n r f x y c m k h = refl
-unstored false true e n r f x y c m k h = unmissed r f x y c m k
-unstored false false e n r f x y c m k h = ap₂ (λ (a b : List ℕ). completed (doneOf c e n r) a b (lineOf c e r)) (h .0) (h .1)
-
-act-unstored : (i : Instr) (u v x y : Val) (f : Flags) (c : Control) (m k : List ℕ) → Alike (reachOf i (v .value) c) x y m k
-    → actStep (actOf i u v f c m k) x c m k ≡ actStep (actOf i u v f c m k) y c m k
+act-unstored : (i : Instr) (u v : Val) (a : Data) (x y : Val) (f : Flags) (c : Control) (m k : List ℕ) → Alike (reachOf i (v .value) c) x y m k
+    → actStep (actOf i u v f c m k) a x f c m k ≡ actStep (actOf i u v f c m k) a y f c m k
 unfolding actOf
-act-unstored i u v x y f c m k h =
+act-unstored i u v a x y f c m k h =
     let r : Reach = reachOf i (v .value) c in
-    unstored (blocked i (v .mark) f) (outside r m) (exec i (u .value) (v .value) (loadedFrom r m) c) (taint i (u .mark) (v .mark) (loadedMark r k) (tf c) f) r f x y c m k h
+    unstored (blocked i (v .mark) f) (outside r m) (exec i (u .value) (v .value) (loadedFrom r m) c) (taint i (u .mark) (v .mark) (loadedMark r k) (tf c) f) r a x y f c m k h
 
 module _ (s : State) (m k : List ℕ) where
   -- The registers that the last two digits of a half h name serve every instruction: where it reads one, its number stands there, and where it reads none,
   -- what it does is the same.
   abbrev Served : Fetched → ℕ → Type 0
-  Served x h = fetchStep x s m k ≡ runHalf x (valueAt s (nibC h)) (valueAt s (nibD h)) (s .flags) (s .control) m k
+  Served x h =
+      fetchStep x s m k
+      ≡ actStep (fetchedAct x (valueAt s (nibC h)) (valueAt s (nibD h)) (s .flags) (s .control) m k) (fetchedData x (valueAt s (nibD h)) (s .control)) (valueAt s (nibC h)) (s .flags) (s .control) m k
 
   named : (t : Bool) (i : Instr) (h : ℕ) → Served (Fetched.Run i) h → Served (decodedTo (shortIf t i)) h
   named true i h p = p
@@ -125,57 +123,56 @@ module _ (s : State) (m k : List ℕ) where
   serves : (i : Instr) (h : ℕ)
       → actOf i (valueAt s (sourcesOf i .first)) (valueAt s (sourcesOf i .second)) (s .flags) (s .control) m k
       ≡ actOf i (valueAt s (nibC h)) (valueAt s (nibD h)) (s .flags) (s .control) m k
+      → dataOf (reachOf i (valueAt s (sourcesOf i .second) .value) (s .control)) ≡ dataOf (reachOf i (valueAt s (nibD h) .value) (s .control))
       → Alike (reachOf i (valueAt s (sourcesOf i .second) .value) (s .control)) (valueAt s (sourcesOf i .first)) (valueAt s (nibC h)) m k
       → Served (Fetched.Run i) h
   unfolding instrStep
-  serves i h e a =
-      act-unstored i (valueAt s (sourcesOf i .first)) (valueAt s (sourcesOf i .second)) (valueAt s (sourcesOf i .first)) (valueAt s (nibC h)) (s .flags) (s .control) m k a
-      ∙ ap (λ (x : Act). actStep x (valueAt s (nibC h)) (s .control) m k) e
+  serves i h e d a =
+      act-unstored i (valueAt s (sourcesOf i .first)) (valueAt s (sourcesOf i .second)) _ (valueAt s (sourcesOf i .first)) (valueAt s (nibC h)) (s .flags) (s .control) m k a
+      ∙ ap₂ (λ (x : Act) (y : Data). actStep x y (valueAt s (nibC h)) (s .flags) (s .control) m k) e d
 
   served-by : (d : Kind) (h b : ℕ) → Served (decodedTo (operandsOf d h b)) h
   unfolding operandsOf sourcesOf actOf blocked reachOf exec taint
   served-by Kind.Nothing h b = refl
-  served-by (Kind.Alu op) h b = serves _ h refl (refl, refl)
-  served-by (Kind.ShiftImm op) h b = serves _ h refl (refl, refl)
-  served-by (Kind.Cmp op) h b = serves _ h refl (refl, refl)
-  served-by (Kind.CmpImm op) h b = serves _ h refl (refl, refl)
-  served-by (Kind.Cond op t) h b = serves _ h refl (refl, refl)
-  served-by (Kind.CondImm t) h b = serves _ h refl (refl, refl)
-  served-by Kind.Ldrpc h b = serves _ h refl (refl, refl)
-  served-by (Kind.Imm op) h b = serves _ h refl (refl, refl)
-  served-by (Kind.Load w) h b = serves _ h refl (refl, refl)
-  served-by (Kind.Store w) h b = serves _ h refl (refl, refl)
-  served-by Kind.Mfsfr h b = named (leb (nibD h) 10) _ h (serves _ h refl (refl, refl))
-  served-by Kind.Mtsfr h b = named (leb (nibC h) 10) _ h (serves _ h refl (refl, refl))
-  served-by Kind.Jr h b = named (eqb (nibC h) 0) _ h (serves _ h refl (refl, refl))
-  served-by Kind.Jrl h b = named (eqb (nibC h) 0) _ h (serves _ h refl (refl, refl))
-  served-by Kind.Jsfr h b = named (eqb (nibC h) 0 && leb (nibD h) 3) _ h (serves _ h refl (refl, refl))
-  served-by Kind.Swint h b = named (eqb (nibC h) 0) _ h (serves _ h refl (refl, refl))
-  served-by (Kind.ShortJump op) h b = serves _ h refl (refl, refl)
-  served-by (Kind.LongJump op) h b = serves _ h refl (refl, refl)
+  served-by (Kind.Alu op) h b = serves _ h refl refl (refl, refl)
+  served-by (Kind.ShiftImm op) h b = serves _ h refl refl (refl, refl)
+  served-by (Kind.Cmp op) h b = serves _ h refl refl (refl, refl)
+  served-by (Kind.CmpImm op) h b = serves _ h refl refl (refl, refl)
+  served-by (Kind.Cond op t) h b = serves _ h refl refl (refl, refl)
+  served-by (Kind.CondImm t) h b = serves _ h refl refl (refl, refl)
+  served-by Kind.Ldrpc h b = serves _ h refl refl (refl, refl)
+  served-by (Kind.Imm op) h b = serves _ h refl refl (refl, refl)
+  served-by (Kind.Load w) h b = serves _ h refl refl (refl, refl)
+  served-by (Kind.Store w) h b = serves _ h refl refl (refl, refl)
+  served-by Kind.Mfsfr h b = named (leb (nibD h) 10) _ h (serves _ h refl refl (refl, refl))
+  served-by Kind.Mtsfr h b = named (leb (nibC h) 10) _ h (serves _ h refl refl (refl, refl))
+  served-by Kind.Jr h b = named (eqb (nibC h) 0) _ h (serves _ h refl refl (refl, refl))
+  served-by Kind.Jrl h b = named (eqb (nibC h) 0) _ h (serves _ h refl refl (refl, refl))
+  served-by Kind.Jsfr h b = named (eqb (nibC h) 0 && leb (nibD h) 3) _ h (serves _ h refl refl (refl, refl))
+  served-by Kind.Swint h b = named (eqb (nibC h) 0) _ h (serves _ h refl refl (refl, refl))
+  served-by (Kind.ShortJump op) h b = serves _ h refl refl (refl, refl)
+  served-by (Kind.LongJump op) h b = serves _ h refl refl (refl, refl)
 
   served : (h : ℕ) → Served (restBy (kindOf (h / 256)) h (pcOf (s .control)) m k) h
   unfolding restBy
   served h = go (secondHalf (kindOf (h / 256)) (afterHalf (pcOf (s .control))) m k)
     where
       go : (x : Half) → Served (bySecond x (kindOf (h / 256)) h) h
-      go (Half.Stop r) = refl
-      go Half.Outside = refl
+      go (Half.Halted r) = refl
       go (Half.Bits b) = served-by (kindOf (h / 256)) h b
 
   -- what a step is, by its start
   abbrev StepBy : Begun → Stepped → Type 0
-  StepBy (Begun.Stop r) x = x ≡ stopped r
-  StepBy (Begun.Enter c) x = (outIn x ≡ Out.Go (record { control = c; flags = s .flags; reg = noReg; value = 0; mark = false })) × (memIn m x ≡ m) × (marksIn k x ≡ k)
+  StepBy (Begun.Halted h) x = x ≡ haltStep h Data.Nowhere (s .flags) (s .control) m k
+  StepBy (Begun.Enter c) x = (outIn x ≡ goes (record { control = c; flags = s .flags; reg = noReg; value = 0; mark = false })) × (memIn m x ≡ m) × (marksIn k x ≡ k)
   StepBy (Begun.Half h) x = x ≡ halfStep h (valueAt s (nibC h)) (valueAt s (nibD h)) (s .flags) (s .control) m k
 
   pub step-by-parts : (t : ℕ) → StepBy (begunOf t (s .control) m k) (stepOf t s m k)
-  unfolding stepOf begunOf halfStep entryDone
+  unfolding stepOf begunOf halfStep halfAct entryDone
   step-by-parts t = go (chosen t (s .control))
     where
-      half : (x : Half) → StepBy (begunHalf x (s .control)) (fetchStep (byFirst x (pcOf (s .control)) m k) s m k)
-      half (Half.Stop r) = refl
-      half Half.Outside = (refl, refl, refl)
+      half : (x : Half) → StepBy (begunHalf x) (fetchStep (byFirst x (pcOf (s .control)) m k) s m k)
+      half (Half.Halted r) = refl
       half (Half.Bits h) = served h
 
       go : (v : Event) → StepBy (begunBy v (s .control) m k) (eventStep v s m k)
@@ -201,19 +198,52 @@ module _ (b n : ℕ) (t : List ℕ) (s : State) (m k : List ℕ) (l : n < b) whe
       let e : b - n ≡ suc (b - (n + 1)) = omega arith in
       rw (e, o)
 
-  pub steps-stop : (x : Stepped) (r : Reply) → stepOf (getD t n 0) s m k ≡ x → outIn x ≡ Out.Stop r
+  pub steps-stop : (x : Stepped) (r : Reply) → stepOf (getD t n 0) s m k ≡ x → outIn x ≡ stops r
       → (stepsOf (b - n) n t s m k ≡ final r n s m k) × (memIn m x ≡ m) × (marksIn k x ≡ k)
   unfolding goOn
   steps-stop (stopped q) r o e = let p : q ≡ r = cc in (by-answer (stopped q) o ∙ ap (λ (z : Reply). final z n s m k) p, refl, refl)
   steps-stop (completed d i j y) r o e = let z : _≡_ {A = ℕ} 0 1 = cc in absurd (omega arith)
 
-  pub steps-go : (x : Stepped) (d : Done) → stepOf (getD t n 0) s m k ≡ x → outIn x ≡ Out.Go d
+  pub steps-go : (x : Stepped) (d : Done) → stepOf (getD t n 0) s m k ≡ x → outIn x ≡ goes d
       → stepsOf (b - n) n t s m k ≡ stepsOf (b - (n + 1)) (n + 1) t (after d s) (memIn m x) (marksIn k x)
   unfolding goOn
   steps-go (stopped q) d o e = let z : _≡_ {A = ℕ} 0 1 = cc in absurd (omega arith)
   steps-go (completed c i j y) d o e =
       let p : c ≡ d = cc in
       by-answer (completed c i j y) o ∙ ap (λ (z : Done). stepsOf (b - (n + 1)) (n + 1) t (after z s) i j) p
+
+-- an instruction that is not done: a stop, or an entry that changes the control part alone
+entered-to : Control → Flags → Done
+entered-to e f = record { control = e; flags = f; reg = noReg; value = 0; mark = false }
+
+halt-stops : (h : Halt) (a : Data) (f : Flags) (c : Control) (m k : List ℕ) (r : Reply) → haltedTo h c ≡ Halted.Stop r → haltStep h a f c m k ≡ stopped r
+halt-stops Halt.FetchOutside a f c m k r e = let z : _≡_ {A = ℕ} 0 1 = cc in absurd (omega arith)
+halt-stops Halt.FetchMarked a f c m k r e = let q : Reply.FetchMarked ≡ r = cc in ap stopped q
+halt-stops Halt.NoInstruction a f c m k r e = let q : Reply.NoInstruction ≡ r = cc in ap stopped q
+halt-stops Halt.MarkedOperand a f c m k r e = let q : Reply.MarkedOperand ≡ r = cc in ap stopped q
+halt-stops Halt.DataOutside a f c m k r e = let z : _≡_ {A = ℕ} 0 1 = cc in absurd (omega arith)
+
+halt-enters : (h : Halt) (a : Data) (f : Flags) (c : Control) (m k : List ℕ) (n : Control) → haltedTo h c ≡ Halted.Enter n
+    → (outIn (haltStep h a f c m k) ≡ goes (entered-to n f)) × (memIn m (haltStep h a f c m k) ≡ m) × (marksIn k (haltStep h a f c m k) ≡ k)
+unfolding entryDone entered-to onward withPc
+halt-enters Halt.FetchOutside a f c m k n e =
+    let q : fallen (on (c .psw) 4) (entered Entry.FetchError c) ≡ n = cc in (ap (λ (u : Control). goes (entered-to u f)) q, refl, refl)
+halt-enters Halt.FetchMarked a f c m k n e = let z : _≡_ {A = ℕ} 0 1 = cc in absurd (omega arith)
+halt-enters Halt.NoInstruction a f c m k n e = let z : _≡_ {A = ℕ} 0 1 = cc in absurd (omega arith)
+halt-enters Halt.MarkedOperand a f c m k n e = let z : _≡_ {A = ℕ} 0 1 = cc in absurd (omega arith)
+halt-enters Halt.DataOutside a f c m k n e =
+    let q : fallen (on (c .psw) 4) (entered Entry.DataError (onward 2 c)) ≡ n = cc in (ap (λ (u : Control). goes (entered-to u f)) q, refl, refl)
+
+-- an instruction by what it answers
+act-halts : (q : Act) (a : Data) (x : Val) (f : Flags) (c : Control) (m k : List ℕ) (h : Halt) → Out.Halted h ≡ actOut q c
+    → (actStep q a x f c m k ≡ haltStep h a f c m k) × (actMem q x m ≡ m) × (actMarks q x k ≡ k)
+act-halts (Act.Halted j) a x f c m k h e = let q : j ≡ h = cc in (ap (λ (i : Halt). haltStep i a f c m k) q, refl, refl)
+act-halts (Act.Does u t r) a x f c m k h e = let z : _≡_ {A = ℕ} 0 1 = cc in absurd (omega arith)
+
+act-goes : (q : Act) (a : Data) (x : Val) (f : Flags) (c : Control) (m k : List ℕ) (d : Done) → Out.Go d ≡ actOut q c
+    → (outIn (actStep q a x f c m k) ≡ goes d) × (memIn m (actStep q a x f c m k) ≡ actMem q x m) × (marksIn k (actStep q a x f c m k) ≡ actMarks q x k)
+act-goes (Act.Halted j) a x f c m k d e = let z : _≡_ {A = ℕ} 0 1 = cc in absurd (omega arith)
+act-goes (Act.Does u t r) a x f c m k d e = let q : doneOf c u t r ≡ d = cc in (ap goes q, refl, refl)
 
 -- the same of a state in its parts, as the loop has them, by the step's start g
 module _ (b n : ℕ) (t : List ℕ) (regs : List ℕ) (marks : List Bool) (f : Flags) (c : Control) (m k : List ℕ) (l : n < b) (g : Begun)
@@ -222,32 +252,65 @@ module _ (b n : ℕ) (t : List ℕ) (regs : List ℕ) (marks : List Bool) (f : F
   here = stateOf regs marks f c
 
   -- an instruction by its first half h, with the registers that it names
-  abbrev halved : ℕ → Stepped
-  halved h = halfStep h (valueAt here (nibC h)) (valueAt here (nibD h)) f c m k
+  abbrev halved : ℕ → Act
+  halved h = halfAct h (valueAt here (nibC h)) (valueAt here (nibD h)) f c m k
 
   begun : (x : Begun) → g ≡ x → StepBy here m k x (stepOf (getD t n 0) here m k)
   begun x e = rw (sym o ∙ e) at (step-by-parts here m k (getD t n 0))
 
-  pub begins-stop : (r : Reply) → g ≡ Begun.Stop r → stepsOf (b - n) n t here m k ≡ final r n here m k
-  begins-stop r e = steps-stop b n t here m k l (stopped r) r (begun (Begun.Stop r) e) refl .0
+  -- no register is written
+  enters-on : (e : Control) (x : Stepped) → stepOf (getD t n 0) here m k ≡ x → length regs ≡ 16 → length marks ≡ 16
+      → (outIn x ≡ goes (entered-to e f)) × (memIn m x ≡ m) × (marksIn k x ≡ k)
+      → stepsOf (b - n) n t here m k ≡ stepsOf (b - (n + 1)) (n + 1) t (stateOf regs marks f e) m k
+  unfolding after entered-to
+  enters-on e x q i j z =
+      steps-go b n t here m k l x _ q (z .0)
+      ∙ rw (z .1, z .2, set-out regs 16 0 (omega arith), set-out marks 16 false (omega arith))
 
   pub begins-entry : (e : Control) → g ≡ Begun.Enter e → length regs ≡ 16 → length marks ≡ 16
       → stepsOf (b - n) n t here m k ≡ stepsOf (b - (n + 1)) (n + 1) t (stateOf regs marks f e) m k
-  unfolding after
-  begins-entry e p x y =
-      let z = begun (Begun.Enter e) p in
-      steps-go b n t here m k l (stepOf (getD t n 0) here m k) _ refl (z .0)
-      ∙ rw (z .1, z .2, set-out regs 16 0 (omega arith), set-out marks 16 false (omega arith))
+  unfolding entered-to
+  begins-entry e p x y = enters-on e (stepOf (getD t n 0) here m k) refl x y (begun (Begun.Enter e) p)
 
-  pub half-stops : (h : ℕ) → g ≡ Begun.Half h → (r : Reply) → Out.Stop r ≡ outIn (halved h)
-      → (stepsOf (b - n) n t here m k ≡ final r n here m k) × (memIn m (halved h) ≡ m) × (marksIn k (halved h) ≡ k)
-  half-stops h e r p = steps-stop b n t here m k l (halved h) r (begun (Begun.Half h) e) (sym p)
+  pub begins-stop : (h : Halt) → g ≡ Begun.Halted h → (r : Reply) → Halted.Stop r ≡ haltedTo h c → stepsOf (b - n) n t here m k ≡ final r n here m k
+  begins-stop h e r p =
+      steps-stop b n t here m k l (stopped r) r (begun (Begun.Halted h) e ∙ halt-stops h Data.Nowhere f c m k r (sym p)) refl .0
 
-  pub half-goes : (h : ℕ) → g ≡ Begun.Half h → (d : Done) → Out.Go d ≡ outIn (halved h) → (rs : List ℕ) (ks : List Bool) (m′ k′ : List ℕ)
-      → rs ≡ set regs (d .reg) (d .value) → ks ≡ set marks (d .reg) (d .mark) → m′ ≡ memIn m (halved h) → k′ ≡ marksIn k (halved h)
+  pub begins-error : (h : Halt) → g ≡ Begun.Halted h → (e : Control) → Halted.Enter e ≡ haltedTo h c → length regs ≡ 16 → length marks ≡ 16
+      → stepsOf (b - n) n t here m k ≡ stepsOf (b - (n + 1)) (n + 1) t (stateOf regs marks f e) m k
+  begins-error h p e q x y = enters-on e (haltStep h Data.Nowhere f c m k) (begun (Begun.Halted h) p) x y (halt-enters h Data.Nowhere f c m k e (sym q))
+
+  -- a half that answers q
+  module _ (h : ℕ) (p : g ≡ Begun.Half h) (q : Halt) (u : Out.Halted q ≡ actOut (halved h) c) where
+    halves : (stepOf (getD t n 0) here m k ≡ haltStep q (fetchedData (halfFetched h c m k) (valueAt here (nibD h)) c) f c m k)
+        × (actMem (halved h) (valueAt here (nibC h)) m ≡ m) × (actMarks (halved h) (valueAt here (nibC h)) k ≡ k)
+    unfolding halfStep
+    halves =
+        let z = act-halts (halved h) (fetchedData (halfFetched h c m k) (valueAt here (nibD h)) c) (valueAt here (nibC h)) f c m k q u in
+        (begun (Begun.Half h) p ∙ z .0, z .1, z .2)
+
+    pub half-stops : (r : Reply) → Halted.Stop r ≡ haltedTo q c
+        → (stepsOf (b - n) n t here m k ≡ final r n here m k) × (actMem (halved h) (valueAt here (nibC h)) m ≡ m) × (actMarks (halved h) (valueAt here (nibC h)) k ≡ k)
+    half-stops r e =
+        (steps-stop b n t here m k l (stopped r) r (halves .0 ∙ halt-stops q _ f c m k r (sym e)) refl .0, halves .1, halves .2)
+
+    pub half-errs : (e : Control) → Halted.Enter e ≡ haltedTo q c → length regs ≡ 16 → length marks ≡ 16 → (m′ k′ : List ℕ)
+        → m′ ≡ actMem (halved h) (valueAt here (nibC h)) m → k′ ≡ actMarks (halved h) (valueAt here (nibC h)) k
+        → stepsOf (b - n) n t here m k ≡ stepsOf (b - (n + 1)) (n + 1) t (stateOf regs marks f e) m′ k′
+    half-errs e i x y m′ k′ v w =
+        enters-on e (haltStep q (fetchedData (halfFetched h c m k) (valueAt here (nibD h)) c) f c m k) (halves .0) x y (halt-enters q _ f c m k e (sym i))
+        ∙ rw (v ∙ halves .1, w ∙ halves .2)
+
+  pub half-goes : (h : ℕ) → g ≡ Begun.Half h → (d : Done) → Out.Go d ≡ actOut (halved h) c → (rs : List ℕ) (ks : List Bool) (m′ k′ : List ℕ)
+      → rs ≡ set regs (d .reg) (d .value) → ks ≡ set marks (d .reg) (d .mark)
+      → m′ ≡ actMem (halved h) (valueAt here (nibC h)) m → k′ ≡ actMarks (halved h) (valueAt here (nibC h)) k
       → stepsOf (b - n) n t here m k ≡ stepsOf (b - (n + 1)) (n + 1) t (stateOf rs ks (d .flags) (d .control)) m′ k′
-  unfolding after
-  half-goes h e d p rs ks m′ k′ x y z w = steps-go b n t here m k l (halved h) d (begun (Begun.Half h) e) (sym p) ∙ rw (x, y, z, w)
+  unfolding after halfStep
+  half-goes h e d p rs ks m′ k′ x y z w =
+      let a : Data = fetchedData (halfFetched h c m k) (valueAt here (nibD h)) c in
+      let v = act-goes (halved h) a (valueAt here (nibC h)) f c m k d p in
+      steps-go b n t here m k l (actStep (halved h) a (valueAt here (nibC h)) f c m k) d (begun (Begun.Half h) e) (v .0)
+      ∙ rw (v .1, v .2, x, y, z, w)
 
 -- what is not refused: the tape is long enough
 passes : (u : Bool) (r : Reply) (x : Judged) → cond u (Judged.Refused r) x ≡ Judged.Good → (u ≡ false) × (x ≡ Judged.Good)

@@ -7,27 +7,38 @@ use Rattle.word.specs.Bits.{on}
 use Rattle.isa.specs.Codes.{kindOf}
 use Rattle.cpu.specs.Control.{pcOf}
 use Rattle.cpu.specs.Entries.{entered, fallen}
+use Rattle.cpu.specs.Exec.{onward}
 use Rattle.cpu.specs.declared.Control.{Control}
 use Rattle.cpu.specs.declared.Entry.{Entry}
 use Rattle.marks.specs.declared.Flags.{Flags}
-use Rattle.instruction.specs.Act.{Val, actOf}
+use Rattle.instruction.specs.Act.{Val, reachOf, actOf}
 use Rattle.instruction.specs.Parts.{firstHalf, restBy}
+use Rattle.instruction.specs.declared.Reply.{Reply}
+use Rattle.instruction.specs.declared.Halt.{Halt}
 use Rattle.instruction.specs.declared.Fetched.{Fetched}
+use Rattle.instruction.specs.declared.Act.{Act}
 use Rattle.instruction.specs.declared.Half.{Half}
-use Rattle.machine.specs.Step.{Stepped, stopped, completed, chosen, entryStep, actStep}
+use Rattle.machine.specs.Step.{Stepped, stopped, completed, chosen, storedTo, markedTo, dataOf, doneOf, actStep}
 use Rattle.machine.specs.declared.State.{State}
 use Rattle.machine.specs.declared.Event.{Event}
 use Rattle.machine.specs.declared.Begun.{Begun}
+use Rattle.machine.specs.declared.Done.{Done}
+use Rattle.machine.specs.declared.Data.{Data}
+use Rattle.machine.specs.declared.Halted.{Halted}
 use Rattle.machine.specs.declared.Out.{Out}
 
 abbrev pub stateOf : List ℕ → List Bool → Flags → Control → State
 stateOf regs marks f c = record { regs = regs; marks = marks; flags = f; control = c }
 
--- ---- a step's parts: what it answers, and the memory and the marks after it, m and k where it stops
+-- ---- a step's parts: whether it stops or what it makes, and the memory and the marks after it, m and k where it stops
 
-abbrev pub outIn : Stepped → Out
-outIn (stopped r) = Out.Stop r
-outIn (completed d m k x) = Out.Go d
+pub data Went : Type 0 where
+  stops : Reply → Went
+  goes : Done → Went
+
+abbrev pub outIn : Stepped → Went
+outIn (stopped r) = stops r
+outIn (completed d m k x) = goes d
 
 abbrev pub memIn : List ℕ → Stepped → List ℕ
 memIn m (stopped r) = m
@@ -37,25 +48,59 @@ abbrev pub marksIn : List ℕ → Stepped → List ℕ
 marksIn k (stopped r) = k
 marksIn k (completed d l j x) = j
 
+-- ---- what comes of an instruction that is not done, without the line that it shows
+
+abbrev pub enters : Entry → Control → Control → Halted
+enters e c n = Halted.Enter (fallen (on (c .psw) 4) (entered e n))
+
+abbrev pub haltedTo : Halt → Control → Halted
+haltedTo Halt.FetchOutside c = enters Entry.FetchError c c
+haltedTo Halt.FetchMarked c = Halted.Stop Reply.FetchMarked
+haltedTo Halt.NoInstruction c = Halted.Stop Reply.NoInstruction
+haltedTo Halt.MarkedOperand c = Halted.Stop Reply.MarkedOperand
+haltedTo Halt.DataOutside c = enters Entry.DataError c (onward 2 c)
+
 -- ---- a step in two parts: all that no register takes part in, and the instruction by its first half
 
-abbrev pub begunHalf : Half → Control → Begun
-begunHalf (Half.Stop r) c = Begun.Stop r
-begunHalf Half.Outside c = Begun.Enter (fallen (on (c .psw) 4) (entered Entry.FetchError c))
-begunHalf (Half.Bits h) c = Begun.Half h
+abbrev pub begunHalf : Half → Begun
+begunHalf (Half.Halted h) = Begun.Halted h
+begunHalf (Half.Bits h) = Begun.Half h
 
 abbrev pub begunBy : Event → Control → List ℕ → List ℕ → Begun
 begunBy (Event.Enter e) c m k = Begun.Enter (fallen (on (c .psw) 4) (entered e c))
-begunBy Event.Instruction c m k = begunHalf (firstHalf (pcOf c) m k) c
+begunBy Event.Instruction c m k = begunHalf (firstHalf (pcOf c) m k)
 
 unfoldable pub begunOf : ℕ → Control → List ℕ → List ℕ → Begun
 begunOf t c m k = begunBy (chosen t c) c m k
 
+-- what an instruction answers, and what it makes of memory and marks; x is what it may store
+abbrev pub actOut : Act → Control → Out
+actOut (Act.Halted h) c = Out.Halted h
+actOut (Act.Does e t r) c = Out.Go (doneOf c e t r)
+
+abbrev pub actMem : Act → Val → List ℕ → List ℕ
+actMem (Act.Halted h) x m = m
+actMem (Act.Does e t r) x m = storedTo r (x .value) m
+
+abbrev pub actMarks : Act → Val → List ℕ → List ℕ
+actMarks (Act.Halted h) x k = k
+actMarks (Act.Does e t r) x k = markedTo r (x .mark) k
+
+-- what is fetched, done, and the data address that it reaches
+abbrev pub fetchedAct : Fetched → Val → Val → Flags → Control → List ℕ → List ℕ → Act
+fetchedAct (Fetched.Halted h) x y f c m k = Act.Halted h
+fetchedAct (Fetched.Run i) x y f c m k = actOf i x y f c m k
+
+abbrev pub fetchedData : Fetched → Val → Control → Data
+fetchedData (Fetched.Halted h) y c = Data.Nowhere
+fetchedData (Fetched.Run i) y c = dataOf (reachOf i (y .value) c)
+
 -- h is the first half, x and y are the registers whose numbers stand in its bits 7:4 and 3:0
-abbrev pub runHalf : Fetched → Val → Val → Flags → Control → List ℕ → List ℕ → Stepped
-runHalf (Fetched.Stop r) x y f c m k = stopped r
-runHalf Fetched.Outside x y f c m k = entryStep Entry.FetchError f c m k
-runHalf (Fetched.Run i) x y f c m k = actStep (actOf i x y f c m k) x c m k
+abbrev pub halfFetched : ℕ → Control → List ℕ → List ℕ → Fetched
+halfFetched h c m k = restBy (kindOf (h / 256)) h (pcOf c) m k
+
+unfoldable pub halfAct : ℕ → Val → Val → Flags → Control → List ℕ → List ℕ → Act
+halfAct h x y f c m k = fetchedAct (halfFetched h c m k) x y f c m k
 
 unfoldable pub halfStep : ℕ → Val → Val → Flags → Control → List ℕ → List ℕ → Stepped
-halfStep h x y f c m k = runHalf (restBy (kindOf (h / 256)) h (pcOf c) m k) x y f c m k
+halfStep h x y f c m k = actStep (halfAct h x y f c m k) (fetchedData (halfFetched h c m k) y c) x f c m k

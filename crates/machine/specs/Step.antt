@@ -9,7 +9,7 @@ use Rattle.word.specs.Bits.{on}
 use Rattle.word.specs.Bytes.{storeOf}
 use Rattle.cpu.specs.Control.{pcOf}
 use Rattle.cpu.specs.Entries.{entered, isBreak, watchEntry, fallen}
-use Rattle.cpu.specs.Exec.{noReg, sourcesOf}
+use Rattle.cpu.specs.Exec.{noReg, onward, sourcesOf}
 use Rattle.cpu.specs.declared.Control.{Control}
 use Rattle.cpu.specs.declared.Effect.{Effect}
 use Rattle.cpu.specs.declared.Entry.{Entry}
@@ -18,8 +18,9 @@ use Rattle.marks.specs.Memory.{markAll}
 use Rattle.marks.specs.declared.Flags.{Flags}
 use Rattle.marks.specs.declared.Taint.{Taint}
 use Rattle.instruction.specs.Fetch.{fetchOf}
-use Rattle.instruction.specs.Act.{Val, actOf}
+use Rattle.instruction.specs.Act.{Val, reachOf, actOf}
 use Rattle.instruction.specs.declared.Reply.{Reply}
+use Rattle.instruction.specs.declared.Halt.{Halt}
 use Rattle.instruction.specs.declared.Fetched.{Fetched}
 use Rattle.instruction.specs.declared.Reach.{Reach}
 use Rattle.instruction.specs.declared.Act.{Act}
@@ -57,23 +58,20 @@ abbrev pub storedTo : Reach → ℕ → List ℕ → List ℕ
 storedTo Reach.Nowhere v m = m
 storedTo (Reach.Reads w a) v m = m
 storedTo (Reach.Writes w a) v m = storeOf w m a v
-storedTo (Reach.Outside a) v m = m
 storedTo (Reach.Raises n) v m = m
 
 abbrev pub markedTo : Reach → Bool → List ℕ → List ℕ
 markedTo Reach.Nowhere b k = k
 markedTo (Reach.Reads w a) b k = k
 markedTo (Reach.Writes w a) b k = markAll w k a b
-markedTo (Reach.Outside a) b k = k
 markedTo (Reach.Raises n) b k = k
 
--- The entry that an instruction makes, with c the control part after it: a swint's own, a bus error's (document 02, ticket 5), or "If it is a load or
--- store (ldrpc too) and an enabled WP0 or WP1 .. equals the address after alignment: debug entry, after it, in the same step"
+-- The entry that an instruction makes, with c the control part after it: a swint's own, or "If it is a load or store (ldrpc too) and an enabled WP0 or
+-- WP1 .. equals the address after alignment: debug entry, after it, in the same step"
 abbrev pub entryBy : Reach → Control → Entry
 entryBy Reach.Nowhere c = Entry.Nothing
 entryBy (Reach.Reads w a) c = watchEntry a c
 entryBy (Reach.Writes w a) c = watchEntry a c
-entryBy (Reach.Outside a) c = Entry.DataError
 entryBy (Reach.Raises n) c = Entry.Swint n
 
 -- the address that its line shows
@@ -81,7 +79,6 @@ abbrev pub dataOf : Reach → Data
 dataOf Reach.Nowhere = Data.Nowhere
 dataOf (Reach.Reads w a) = Data.At a
 dataOf (Reach.Writes w a) = Data.At a
-dataOf (Reach.Outside a) = Data.At a
 dataOf (Reach.Raises n) = Data.Nowhere
 
 -- ---- a step stops, or is completed: with what it makes of the registers and the control part, of memory and of its marks, and with the line that it shows
@@ -104,6 +101,16 @@ entryDone e f c =
 abbrev pub entryStep : Entry → Flags → Control → List ℕ → List ℕ → Stepped
 entryStep e f c m k = completed (entryDone e f c) m k (record { pc = pcOf c; entry = e; address = Data.Nowhere })
 
+-- What comes of an instruction that is not done, one line for each reason: a stop, or a bus error, which is an entry (document 02, ticket 5). "On a fetch, ..
+-- IPC is the instruction's own address; on data, .. IPC is the next instruction, and no register, byte or watchpoint hit changes". a is the data address
+abbrev pub haltStep : Halt → Data → Flags → Control → List ℕ → List ℕ → Stepped
+haltStep Halt.FetchOutside a f c m k = entryStep Entry.FetchError f c m k
+haltStep Halt.FetchMarked a f c m k = stopped Reply.FetchMarked
+haltStep Halt.NoInstruction a f c m k = stopped Reply.NoInstruction
+haltStep Halt.MarkedOperand a f c m k = stopped Reply.MarkedOperand
+haltStep Halt.DataOutside a f c m k =
+    completed (entryDone Entry.DataError f (onward 2 c)) m k (record { pc = pcOf c; entry = Entry.DataError; address = a })
+
 -- an instruction from control part c on: the entry that it makes, and the timer's fall by TE at the step's start
 unfoldable pub doneOf : Control → Effect → Taint → Reach → Done
 doneOf c e t r =
@@ -118,10 +125,10 @@ doneOf c e t r =
 unfoldable pub lineOf : Control → Effect → Reach → Line
 lineOf c e r = record { pc = pcOf c; entry = entryBy r (e .control); address = dataOf r }
 
--- x is what it may store
-abbrev pub actStep : Act → Val → Control → List ℕ → List ℕ → Stepped
-actStep (Act.Stop r) x c m k = stopped r
-actStep (Act.Does e t r) x c m k = completed (doneOf c e t r) (storedTo r (x .value) m) (markedTo r (x .mark) k) (lineOf c e r)
+-- a is the data address, x what it may store
+abbrev pub actStep : Act → Data → Val → Flags → Control → List ℕ → List ℕ → Stepped
+actStep (Act.Halted h) a x f c m k = haltStep h a f c m k
+actStep (Act.Does e t r) a x f c m k = completed (doneOf c e t r) (storedTo r (x .value) m) (markedTo r (x .mark) k) (lineOf c e r)
 
 -- ---- the step
 
@@ -129,15 +136,15 @@ unfoldable pub instrStep : Instr → State → List ℕ → List ℕ → Stepped
 instrStep i s m k =
     actStep
     (actOf i (valueAt s (sourcesOf i .first)) (valueAt s (sourcesOf i .second)) (s .flags) (s .control) m k)
+    (dataOf (reachOf i (valueAt s (sourcesOf i .second) .value) (s .control)))
     (valueAt s (sourcesOf i .first))
+    (s .flags)
     (s .control)
     m
     k
 
--- a fetch outside memory: "IPC is the instruction's own address" (document 02, ticket 5)
 abbrev pub fetchStep : Fetched → State → List ℕ → List ℕ → Stepped
-fetchStep (Fetched.Stop r) s m k = stopped r
-fetchStep Fetched.Outside s m k = entryStep Entry.FetchError (s .flags) (s .control) m k
+fetchStep (Fetched.Halted h) s m k = haltStep h Data.Nowhere (s .flags) (s .control) m k
 fetchStep (Fetched.Run i) s m k = instrStep i s m k
 
 abbrev pub eventStep : Event → State → List ℕ → List ℕ → Stepped

@@ -8,6 +8,7 @@ mod step;
 pub use choice::choose;
 use cpu::Control;
 use cpu::Entry;
+use instruction::Halt;
 use instruction::Reply;
 use marks::Flags;
 pub use registers::fresh;
@@ -28,9 +29,9 @@ pub enum Event {
     Instruction,
 }
 
-// The start of a step: it stops, is an entry with the control part after it, or is the instruction whose first half this is.
+// The start of a step: its fetch is not done, it is an entry with the control part after it, or it is the instruction whose first half this is.
 pub enum Begun {
-    Stop(Reply),
+    Halted(Halt),
     Enter(Control),
     Half(u16),
 }
@@ -44,8 +45,14 @@ pub struct Done {
     pub mark: bool,
 }
 
-pub enum Out {
+// What comes of an instruction that is not done: a stop, or a bus error with the control part after it.
+pub enum Halted {
     Stop(Reply),
+    Enter(Control),
+}
+
+pub enum Out {
+    Halted(Halt),
     Go(Done),
 }
 

@@ -7,6 +7,7 @@ ghost use Rattle.machine.specs.Run.{stepsOf, runOf};
 ghost use Rattle.machine.specs.Parts.{stateOf};
 use crate::Begun;
 use crate::Ended;
+use crate::Halted;
 use crate::Judged;
 use crate::Out;
 use crate::State;
@@ -15,6 +16,7 @@ use crate::registers::put_mark;
 use crate::registers::put_value;
 use crate::step::begin;
 use crate::step::half_step;
+use crate::step::halt;
 use cpu::Control;
 use instruction::Reply;
 use marks::Flags;
@@ -65,8 +67,17 @@ fn steps(b: usize, t: &[u8], s: State, m: &mut [u8], k: &mut [u8]) -> Ended
     while n < b {
         let g = begin(wide(t[n]), control, m, k);
         match g {
-            Begun::Stop(reply) => {
-                return end_at(regs, marks, tf, cy, control, n, reply);
+            Begun::Halted(h) => {
+                let x = halt(h, control);
+                match x {
+                    Halted::Stop(reply) => {
+                        return end_at(regs, marks, tf, cy, control, n, reply);
+                    }
+                    Halted::Enter(e) => {
+                        control = e;
+                        n += 1;
+                    }
+                }
             }
             Begun::Enter(e) => {
                 control = e;
@@ -88,8 +99,17 @@ fn steps(b: usize, t: &[u8], s: State, m: &mut [u8], k: &mut [u8]) -> Ended
                     k,
                 );
                 match out {
-                    Out::Stop(reply) => {
-                        return end_at(regs, marks, tf, cy, control, n, reply);
+                    Out::Halted(h) => {
+                        let x = halt(h, control);
+                        match x {
+                            Halted::Stop(reply) => {
+                                return end_at(regs, marks, tf, cy, control, n, reply);
+                            }
+                            Halted::Enter(e) => {
+                                control = e;
+                                n += 1;
+                            }
+                        }
                     }
                     Out::Go(d) => {
                         let c = d.control;

@@ -3,13 +3,14 @@ ghost use mathlib.Core.Path.{_≡_};
 ghost use Prim.Native.Nat.{ℕ};
 ghost use Rattle.word.specs.Bits.{on};
 ghost use Rattle.cpu.specs.Entries.{entered, fallen};
-ghost use Rattle.cpu.specs.declared.Entry.{Entry};
 ghost use Rattle.instruction.specs.Parts.{val, flags};
-ghost use Rattle.machine.specs.Step.{storedTo, markedTo, entryBy, entryDone, doneOf, actStep};
-ghost use Rattle.machine.specs.Parts.{outIn, memIn, marksIn, begunOf, halfStep};
+ghost use Rattle.machine.specs.Step.{storedTo, markedTo, entryBy, doneOf};
+ghost use Rattle.machine.specs.Parts.{haltedTo, begunOf, actOut, actMem, actMarks, halfAct};
+ghost use Rattle.machine.specs.declared.Begun.{Begun};
 use crate::Begun;
 use crate::Done;
 use crate::Event;
+use crate::Halted;
 use crate::Out;
 use crate::choice::choose;
 use cpu::Control;
@@ -18,16 +19,32 @@ use cpu::Entry;
 use instruction::Act;
 use instruction::Fetched;
 use instruction::Half;
+use instruction::Halt;
 use instruction::Reach;
+use instruction::Reply;
 use marks::Flags;
 use marks::Taint;
 use word::ByteAddr;
 
-// The control part after a step that is an entry.
-fn enter(e: Entry, c: Control) -> Control
-    ensures { λ r. ⌜ r ≡ fallen (on (c .psw) 4) (entered e c) ⌝ }
+fn enter(e: Entry, c: Control) -> Begun
+    ensures { λ r. ⌜ r ≡ Begun.Enter (passed (on (c .psw) 4) (entryCost e) (entered e c)) ⌝ }
 {
-    cpu::fall(word::is_on(c.psw, 4), cpu::enter(e, c))
+    let cost = cpu::entry_cost(e) as u32;
+    Begun::Enter(cpu::pass(word::is_on(c.psw, 4), cost, cpu::enter(e, c)))
+}
+
+// What comes of an instruction that is not done, from control part c on.
+pub fn halt(h: Halt, c: Control) -> Halted
+    ensures { λ r. ⌜ r ≡ haltedTo h c ⌝ }
+{
+    let te = word::is_on(c.psw, 4);
+    match h {
+        Halt::FetchOutside => Halted::Enter(cpu::pass(te, 4, cpu::fetch_error(c))),
+        Halt::FetchMarked => Halted::Stop(Reply::FetchMarked),
+        Halt::NoInstruction => Halted::Stop(Reply::NoInstruction),
+        Halt::MarkedOperand => Halted::Stop(Reply::MarkedOperand),
+        Halt::DataOutside => Halted::Enter(cpu::pass(te, 4, cpu::data_error(c))),
+    }
 }
 
 // All of a step that no register takes part in.
@@ -36,12 +53,11 @@ pub fn begin(t: u32, c: Control, m: &[u8], mk: &[u8]) -> Begun
 {
     let e = choose(t, c);
     match e {
-        Event::Enter(x) => Begun::Enter(enter(x, c)),
+        Event::Enter(x) => enter(x, c),
         Event::Instruction => {
             let f = instruction::fetch::first_half(ByteAddr(c.pc), m, mk);
             match f {
-                Half::Stop(r) => Begun::Stop(r),
-                Half::Outside => Begun::Enter(enter(Entry::FetchError, c)),
+                Half::Halted(h) => Begun::Halted(h),
                 Half::Bits(h) => Begun::Half(h),
             }
         }
@@ -55,7 +71,6 @@ pub fn entry_of(r: Reach, c: Control) -> Entry
         Reach::Nowhere => Entry::Nothing,
         Reach::Reads(_, a) => cpu::watch(a, c),
         Reach::Writes(_, a) => cpu::watch(a, c),
-        Reach::Outside(_) => Entry::DataError,
         Reach::Raises(n) => Entry::Swint(n),
     }
 }
@@ -66,10 +81,21 @@ fn enter_by(r: Reach, c: Control) -> Control
 {
     match r {
         Reach::Nowhere => c,
-        Reach::Reads(_, a) => cpu::enter(cpu::watch(a, c), c),
-        Reach::Writes(_, a) => cpu::enter(cpu::watch(a, c), c),
-        Reach::Outside(_) => cpu::enter(Entry::DataError, c),
-        Reach::Raises(n) => cpu::enter(Entry::Swint(n), c),
+        Reach::Reads(_, a) => cpu::enter_watch(a, c),
+        Reach::Writes(_, a) => cpu::enter_watch(a, c),
+        Reach::Raises(n) => cpu::enter_swint(n, c),
+    }
+}
+
+// What that entry adds to the instruction's cost.
+fn cost_by(r: Reach, c: Control) -> u8
+    ensures { λ n. ⌜ n ≡ entryCost (entryBy r c) ⌝ }
+{
+    match r {
+        Reach::Nowhere => 0,
+        Reach::Reads(_, a) => cpu::watch_cost(a, c),
+        Reach::Writes(_, a) => cpu::watch_cost(a, c),
+        Reach::Raises(_) => 0,
     }
 }
 
@@ -78,8 +104,9 @@ fn finish(c: Control, e: Effect, t: Taint, r: Reach) -> Done
 {
     let made = e.control;
     let te = word::both(word::is_on(c.psw, 4), !e.wrote);
+    let cost = e.cost as u32 + cost_by(r, made) as u32;
     Done {
-        control: cpu::fall(te, enter_by(r, made)),
+        control: cpu::pass(te, cost, enter_by(r, made)),
         flags: Flags {
             tf: t.flags.tf,
             cy: t.flags.cy,
@@ -101,35 +128,21 @@ fn write_at(r: Reach, u: u32, mu: bool, m: &mut [u8], mk: &mut [u8])
             word::store(w, m, a, u);
             marks::set_marks(w, mk, a, mu);
         }
-        Reach::Outside(_) => {}
         Reach::Raises(_) => {}
     }
 }
 
 fn act_step(a: Act, u: u32, mu: bool, c: Control, m: &mut [u8], mk: &mut [u8]) -> Out
-    ensures { λ r. ⌜ r ≡ outIn (actStep a (val u mu) c (now (m .entry)) (now (mk .entry))) ⌝ }
-    ensures { λ _. ⌜ now (m .exit) ≡ memIn (now (m .entry)) (actStep a (val u mu) c (now (m .entry)) (now (mk .entry))) ⌝ }
-    ensures { λ _. ⌜ now (mk .exit) ≡ marksIn (now (mk .entry)) (actStep a (val u mu) c (now (m .entry)) (now (mk .entry))) ⌝ }
+    ensures { λ r. ⌜ r ≡ actOut a c ⌝ }
+    ensures { λ _. ⌜ now (m .exit) ≡ actMem a (val u mu) (now (m .entry)) ⌝ }
+    ensures { λ _. ⌜ now (mk .exit) ≡ actMarks a (val u mu) (now (mk .entry)) ⌝ }
 {
     match a {
-        Act::Stop(r) => Out::Stop(r),
+        Act::Halted(h) => Out::Halted(h),
         Act::Does(e, t, r) => {
             write_at(r, u, mu, m, mk);
             Out::Go(finish(c, e, t, r))
         }
-    }
-}
-
-// A bus error of the second half's fetch.
-fn fetch_error(tf: bool, cy: bool, c: Control) -> Done
-    ensures { λ d. ⌜ d ≡ entryDone Entry.FetchError (flags tf cy) c ⌝ }
-{
-    Done {
-        control: enter(Entry::FetchError, c),
-        flags: Flags { tf, cy },
-        reg: cpu::NO_REG,
-        value: 0,
-        mark: false,
     }
 }
 
@@ -146,15 +159,14 @@ pub fn half_step(
     m: &mut [u8],
     mk: &mut [u8],
 ) -> Out
-    ensures { λ r. ⌜ r ≡ outIn (halfStep first (val u mu) (val v mv) (flags tf cy) c (now (m .entry)) (now (mk .entry))) ⌝ }
-    ensures { λ _. ⌜ now (m .exit) ≡ memIn (now (m .entry)) (halfStep first (val u mu) (val v mv) (flags tf cy) c (now (m .entry)) (now (mk .entry))) ⌝ }
-    ensures { λ _. ⌜ now (mk .exit) ≡ marksIn (now (mk .entry)) (halfStep first (val u mu) (val v mv) (flags tf cy) c (now (m .entry)) (now (mk .entry))) ⌝ }
+    ensures { λ r. ⌜ r ≡ actOut (halfAct first (val u mu) (val v mv) (flags tf cy) c (now (m .entry)) (now (mk .entry))) c ⌝ }
+    ensures { λ _. ⌜ now (m .exit) ≡ actMem (halfAct first (val u mu) (val v mv) (flags tf cy) c (now (m .entry)) (now (mk .entry))) (val u mu) (now (m .entry)) ⌝ }
+    ensures { λ _. ⌜ now (mk .exit) ≡ actMarks (halfAct first (val u mu) (val v mv) (flags tf cy) c (now (m .entry)) (now (mk .entry))) (val u mu) (now (mk .entry)) ⌝ }
 {
     let kind = isa::kind_of((first / 256) as u8);
     let f = instruction::fetch::rest_at(kind, first, ByteAddr(c.pc), m, mk);
     match f {
-        Fetched::Stop(reply) => Out::Stop(reply),
-        Fetched::Outside => Out::Go(fetch_error(tf, cy, c)),
+        Fetched::Halted(h) => Out::Halted(h),
         Fetched::Run(i) => {
             let a = instruction::classes::act_on(i, u, mu, v, mv, tf, cy, c, m, mk);
             act_step(a, u, mu, c, m, mk)

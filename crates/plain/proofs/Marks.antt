@@ -75,14 +75,12 @@ module _ (k : List ℕ) (z : (i : ℕ) → getD k i 0 ≡ 0) where
   loaded-off Reach.Nowhere = refl
   loaded-off (Reach.Reads w a) = anyOf-off w a
   loaded-off (Reach.Writes w a) = refl
-  loaded-off (Reach.Outside a) = refl
   loaded-off (Reach.Raises n) = refl
 
   pub marked-kept : (r : Reach) → markedTo r false k ≡ k
   marked-kept Reach.Nowhere = refl
   marked-kept (Reach.Reads w a) = refl
   marked-kept (Reach.Writes w a) = fillOf-kept w a
-  marked-kept (Reach.Outside a) = refl
   marked-kept (Reach.Raises n) = refl
 
 -- ---- instructions

@@ -17,6 +17,7 @@ use Rattle.instruction.specs.Fetch.{afterHalf}
 use Rattle.instruction.specs.Act.{reachOf, outside}
 use Rattle.instruction.specs.Statements.{decodedAt}
 use Rattle.instruction.specs.declared.Reply.{Reply}
+use Rattle.instruction.specs.declared.Halt.{Halt}
 use Rattle.instruction.specs.declared.Fetched.{Fetched}
 use Rattle.instruction.specs.declared.Reach.{Reach}
 use Rattle.machine.specs.State.{outOfForm}
@@ -33,10 +34,16 @@ use Rattle.plain.proofs.Same.{run-same}
 abbrev pub byMarks : Reply → Bool
 byMarks r = eqb (numberOf r) 12 || eqb (numberOf r) 14
 
--- the same of a fetch, of a step, and of what the refusals leave; false where none stops
+-- the same of what is not done, of a fetch, of a step, and of what the refusals leave; false where none stops
+abbrev inHalt : Halt → Bool
+inHalt Halt.FetchOutside = false
+inHalt Halt.FetchMarked = true
+inHalt Halt.NoInstruction = false
+inHalt Halt.MarkedOperand = true
+inHalt Halt.DataOutside = false
+
 abbrev inFetched : Fetched → Bool
-inFetched (Fetched.Stop r) = byMarks r
-inFetched Fetched.Outside = false
+inFetched (Fetched.Halted h) = inHalt h
 inFetched (Fetched.Run i) = false
 
 abbrev inOutcome : Outcome → Bool
@@ -52,7 +59,7 @@ either f true x y p q = p
 either f false x y p q = q
 
 reached-fine : (a : ByteAddr) (m : List ℕ) (x : Fetched) → inFetched x ≡ false → inFetched (reached a m x) ≡ false
-reached-fine a m x e = either inFetched (not (inside m a 2)) Fetched.Outside x refl e
+reached-fine a m x e = either inFetched (not (inside m a 2)) (Fetched.Halted Halt.FetchOutside) x refl e
 
 decoded-fine : (d : Decoded) (b : ByteAddr) (m : List ℕ) → inFetched (decoded d b m) ≡ false
 decoded-fine (Decoded.Short i) b m = refl
@@ -71,8 +78,11 @@ act-fine i x y r s m = either inOutcome (outside r m) _ _ refl refl
 
 fetched-fine : (x : Fetched) (s : Core) (m : List ℕ) → inFetched x ≡ false → inOutcome (onFetched x s m) ≡ false
 unfolding perform
-fetched-fine (Fetched.Stop r) s m e = e
-fetched-fine Fetched.Outside s m e = refl
+fetched-fine (Fetched.Halted Halt.FetchOutside) s m e = refl
+fetched-fine (Fetched.Halted Halt.FetchMarked) s m e = e
+fetched-fine (Fetched.Halted Halt.NoInstruction) s m e = refl
+fetched-fine (Fetched.Halted Halt.MarkedOperand) s m e = e
+fetched-fine (Fetched.Halted Halt.DataOutside) s m e = refl
 fetched-fine (Fetched.Run i) s m e =
     let y : ℕ = valueOf s (sourcesOf i .second) in
     act-fine i (valueOf s (sourcesOf i .first)) y (reachOf i y (s .control)) s m

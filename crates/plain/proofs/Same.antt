@@ -11,29 +11,31 @@ use Rattle.word.specs.declared.ByteAddr.{ByteAddr}
 use Rattle.word.specs.declared.Width.{Width}
 use Rattle.isa.specs.declared.Decoded.{Decoded}
 use Rattle.isa.specs.declared.Instr.{Instr}
-use Rattle.cpu.specs.Control.{pcOf, tf}
+use Rattle.cpu.specs.Control.{pcOf, withPc, tf}
 use Rattle.cpu.specs.Entries.{entered}
-use Rattle.cpu.specs.Exec.{onward, moves, exec, sourcesOf}
+use Rattle.cpu.specs.Exec.{onward, exec, sourcesOf}
 use Rattle.cpu.specs.declared.Control.{Control}
 use Rattle.cpu.specs.declared.Effect.{Effect}
 use Rattle.cpu.specs.declared.Entry.{Entry}
 use Rattle.marks.specs.Marks.{with}
 use Rattle.marks.specs.declared.Flags.{Flags}
 use Rattle.instruction.specs.Fetch.{guarded, found, fetchOf}
-use Rattle.instruction.specs.Act.{Val, reachOf, outside, missed, missing, loadedFrom, actOf}
+use Rattle.instruction.specs.Act.{Val, reachOf, outside, loadedFrom, actOf}
 use Rattle.instruction.specs.Statements.{decodedAt}
 use Rattle.instruction.specs.declared.Reply.{Reply}
+use Rattle.instruction.specs.declared.Halt.{Halt}
 use Rattle.instruction.specs.declared.Fetched.{Fetched}
 use Rattle.instruction.specs.declared.Reach.{Reach}
 use Rattle.instruction.specs.declared.Act.{Act}
 use Rattle.machine.specs.State.{valueAt}
-use Rattle.machine.specs.Step.{Stepped, stopped as halted, completed as made, chosen, storedTo, entryDone, entryStep, doneOf, actStep, instrStep, fetchStep, eventStep, stepOf, after}
+use Rattle.machine.specs.Step.{Stepped, stopped as halted, completed as made, chosen, storedTo, entryDone, doneOf, haltStep, actStep, instrStep, fetchStep, eventStep, stepOf, after}
 use Rattle.machine.specs.Run.{Final, judge, goOn, stepsOf, judged, runOf}
 use Rattle.machine.specs.declared.State.{State}
 use Rattle.machine.specs.declared.Event.{Event}
+use Rattle.machine.specs.declared.Data.{Data}
 use Rattle.machine.specs.declared.Judged.{Judged}
 use Rattle.machine.specs.declared.Line.{Line}
-use Rattle.plain.specs.Plain.{Core, reached, decoded, fetch, Outcome, stopped, completed, changed, act, perform, enters, onFetched, onEvent, step, Result, refusal, stepsFrom, unlessRefused, run, goOn as goOnPlain}
+use Rattle.plain.specs.Plain.{Core, reached, decoded, fetch, Outcome, stopped, completed, changed, enters, halts, act, perform, onFetched, onEvent, step, Result, refusal, stepsFrom, unlessRefused, run, goOn as goOnPlain}
 use Rattle.plain.specs.Clean.{Clean, coreOf, beside}
 use Rattle.plain.proofs.Marks.{none, reg-off, reg-kept, above-off, anyOf-off, loaded-off, marked-kept, taint-off, blocked-off}
 
@@ -67,46 +69,47 @@ module _ (k : List ℕ) (z : (i : ℕ) → getD k i 0 ≡ 0) where
   unfolding fetchOf fetch
   fetch-same a m = rw (anyOf-off k z Width.Half a, found-same (decodedAt m a) _ m)
 
-  -- a load or store outside memory stores nothing
-  stored-off : (r : Reach) (v : ℕ) (m : List ℕ) → storedTo (missed r) v m ≡ m
-  stored-off Reach.Nowhere v m = refl
-  stored-off (Reach.Reads w a) v m = refl
-  stored-off (Reach.Writes w a) v m = refl
-  stored-off (Reach.Outside a) v m = refl
-  stored-off (Reach.Raises n) v m = refl
+  -- an entry on a control part that has the same TE
+  enters-same : (e : Entry) (c : Control) (s : Core) (m : List ℕ) (x : Line) → on (c .psw) 4 ≡ on (s .control .psw) 4
+      → Agree s k (made (entryDone e none c) m k x) (enters e c s m)
+  unfolding changed entryDone entered
+  enters-same e c s m x p = rw (p, and-true (on (s .control .psw) 4)) (goes _ _ _ _ _)
 
-  does-same : (s : Core) (m : List ℕ) (u : Bool) (v : ℕ) (e : Effect) (r : Reach)
+  halts-same : (h : Halt) (a : Data) (s : Core) (m : List ℕ) → Agree s k (haltStep h a none (s .control) m k) (halts h s m)
+  unfolding onward withPc
+  halts-same Halt.FetchOutside a s m = enters-same Entry.FetchError (s .control) s m _ refl
+  halts-same Halt.FetchMarked a s m = stops Reply.FetchMarked
+  halts-same Halt.NoInstruction a s m = stops Reply.NoInstruction
+  halts-same Halt.MarkedOperand a s m = stops Reply.MarkedOperand
+  halts-same Halt.DataOutside a s m = enters-same Entry.DataError (onward 2 (s .control)) s m _ refl
+
+  does-same : (s : Core) (m : List ℕ) (u : Bool) (a : Data) (v : ℕ) (e : Effect) (r : Reach)
       → Agree s k
-      (actStep (cond u (missing r none (s .control)) (Act.Does e (with false none) r)) (record { value = v; mark = false }) (s .control) m k)
-      (cond u (completed (changed s (moves (onward 2 (s .control))) (missed r)) m) (completed (changed s e r) (storedTo r v m)))
+      (actStep (cond u (Act.Halted Halt.DataOutside) (Act.Does e (with false none) r)) a (record { value = v; mark = false }) none (s .control) m k)
+      (cond u (halts Halt.DataOutside s m) (completed (changed s e r) (storedTo r v m)))
   unfolding doneOf changed
-  does-same s m true v e r = rw (marked-kept k z (missed r), stored-off r v m) (goes _ _ _ _ _)
-  does-same s m false v e r = rw (marked-kept k z r) (goes _ _ _ _ _)
+  does-same s m true a v e r = halts-same Halt.DataOutside a s m
+  does-same s m false a v e r = rw (marked-kept k z r) (goes _ _ _ _ _)
 
-  act-same : (i : Instr) (x y : Val) (s : Core) (m : List ℕ) → x .mark ≡ false → y .mark ≡ false
-      → Agree s k (actStep (actOf i x y none (s .control) m k) x (s .control) m k)
+  act-same : (i : Instr) (a : Data) (x y : Val) (s : Core) (m : List ℕ) → x .mark ≡ false → y .mark ≡ false
+      → Agree s k (actStep (actOf i x y none (s .control) m k) a x none (s .control) m k)
       (act i (x .value) (y .value) (reachOf i (y .value) (s .control)) s m)
   unfolding actOf act
-  act-same i x y s m p q =
+  act-same i a x y s m p q =
       let r : Reach = reachOf i (y .value) (s .control) in
       rw (p, q, blocked-off i, loaded-off k z r, taint-off i (tf (s .control)))
-      (does-same s m (outside r m) (x .value) (exec i (x .value) (y .value) (loadedFrom r m) (s .control)) r)
-
-  enters-same : (e : Entry) (s : Core) (m : List ℕ) → Agree s k (entryStep e none (s .control) m k) (enters e s m)
-  unfolding changed entryDone entered
-  enters-same e s m = rw (and-true (on (s .control .psw) 4)) (goes _ _ _ _ _)
+      (does-same s m (outside r m) a (x .value) (exec i (x .value) (y .value) (loadedFrom r m) (s .control)) r)
 
   fetched-same : (x : Fetched) (s : Core) (m : List ℕ) → Agree s k (fetchStep x (unmarked s) m k) (onFetched x s m)
   unfolding instrStep perform
-  fetched-same (Fetched.Stop r) s m = stops r
-  fetched-same Fetched.Outside s m = enters-same Entry.FetchError s m
+  fetched-same (Fetched.Halted h) s m = halts-same h Data.Nowhere s m
   fetched-same (Fetched.Run i) s m =
-      act-same i (valueAt (unmarked s) (sourcesOf i .first)) (valueAt (unmarked s) (sourcesOf i .second)) s m
+      act-same i _ (valueAt (unmarked s) (sourcesOf i .first)) (valueAt (unmarked s) (sourcesOf i .second)) s m
       (reg-off (sourcesOf i .first))
       (reg-off (sourcesOf i .second))
 
   event-same : (v : Event) (s : Core) (m : List ℕ) → Agree s k (eventStep v (unmarked s) m k) (onEvent v s m)
-  event-same (Event.Enter e) s m = enters-same e s m
+  event-same (Event.Enter e) s m = enters-same e (s .control) s m _ refl
   event-same Event.Instruction s m = rw (fetch-same (pcOf (s .control)) m) (fetched-same (fetch (pcOf (s .control)) m) s m)
 
   step-same : (t : ℕ) (s : Core) (m : List ℕ) → Agree s k (stepOf t (unmarked s) m k) (step t s m)

@@ -1,7 +1,7 @@
 -- The machine without marks: "a second definition by the same rules, with no mark in its state or its steps" (document 01, "Holding the statements to the
 -- machine"). It has a state, a fetch, a step, refusals and a run of its own. Shared with the machine with marks are rules that neither read nor make a mark: the decoder
 -- (decodeOf, halfAt), the choice of a step (chosen), entries and the timer's fall (entered, entryBy, fallen), what an instruction does to values (exec, sourcesOf), where it
--- reaches (reachOf, outside, missed, loadedFrom, storedTo), and the tests of refusals 1, 4 and 6 (badLength, outOfForm, anyAbove). What marks add is not here: no mark slice, no
+-- reaches (reachOf, outside, loadedFrom, storedTo), and the tests of refusals 1, 4 and 6 (badLength, outOfForm, anyAbove). What marks add is not here: no mark slice, no
 -- marks of registers and flags, and of the replies none of 2, 3, 12 and 14.
 -- Assumes nothing.
 use Prim.Native.Nat.{ℕ, zero, suc, _+_}
@@ -23,8 +23,9 @@ use Rattle.cpu.specs.declared.Control.{Control}
 use Rattle.cpu.specs.declared.Effect.{Effect}
 use Rattle.cpu.specs.declared.Entry.{Entry}
 use Rattle.instruction.specs.Fetch.{halfAt, afterHalf}
-use Rattle.instruction.specs.Act.{reachOf, outside, missed, loadedFrom}
+use Rattle.instruction.specs.Act.{reachOf, outside, loadedFrom}
 use Rattle.instruction.specs.declared.Reply.{Reply}
+use Rattle.instruction.specs.declared.Halt.{Halt}
 use Rattle.instruction.specs.declared.Fetched.{Fetched}
 use Rattle.instruction.specs.declared.Reach.{Reach}
 use Rattle.machine.specs.State.{outOfForm}
@@ -45,17 +46,17 @@ valueOf s i = getD (s .regs) i 0
 -- ---- the fetch: "first half outside, .., not an instruction, second half outside, .."
 
 abbrev pub reached : ByteAddr → List ℕ → Fetched → Fetched
-reached a m x = cond (not (inside m a 2)) Fetched.Outside x
+reached a m x = cond (not (inside m a 2)) (Fetched.Halted Halt.FetchOutside) x
 
 abbrev pub decoded : Decoded → ByteAddr → List ℕ → Fetched
 decoded (Decoded.Short i) b m = Fetched.Run i
 decoded (Decoded.Long i) b m = reached b m (Fetched.Run i)
-decoded Decoded.Nothing b m = Fetched.Stop Reply.NoInstruction
+decoded Decoded.Nothing b m = Fetched.Halted Halt.NoInstruction
 
 -- "A program counter found odd inside a run answers 13, before all these"
 unfoldable pub fetch : ByteAddr → List ℕ → Fetched
 fetch a m =
-    cond (isOdd a) (Fetched.Stop Reply.NoInstruction)
+    cond (isOdd a) (Fetched.Halted Halt.NoInstruction)
     (reached a m (decoded (decodeOf (halfAt m a) (halfAt m (afterHalf a))) (afterHalf a) m))
 
 -- ---- one step
@@ -74,10 +75,22 @@ changed s e r =
       control = fallen (on (s .control .psw) 4 && not (e .wrote)) (entered (entryBy r (e .control)) (e .control));
     }
 
--- an instruction whose operands have the values x and y, and which reaches memory at r: a bus error, made at the next instruction, or all that it does
+-- an entry, made on control part c, which reaches no register and no memory, with the timer's fall
+abbrev pub enters : Entry → Control → Core → List ℕ → Outcome
+enters e c s m = completed (changed s (moves (entered e c)) Reach.Nowhere) m
+
+-- what comes of an instruction that is not done: a bus error's entry, at the instruction's own address or at the next one (document 02, ticket 5), or a stop
+abbrev pub halts : Halt → Core → List ℕ → Outcome
+halts Halt.FetchOutside s m = enters Entry.FetchError (s .control) s m
+halts Halt.FetchMarked s m = stopped Reply.FetchMarked
+halts Halt.NoInstruction s m = stopped Reply.NoInstruction
+halts Halt.MarkedOperand s m = stopped Reply.MarkedOperand
+halts Halt.DataOutside s m = enters Entry.DataError (onward 2 (s .control)) s m
+
+-- an instruction whose operands have the values x and y, and which reaches memory at r: a bus error, or all that it does
 unfoldable pub act : Instr → ℕ → ℕ → Reach → Core → List ℕ → Outcome
 act i x y r s m =
-    cond (outside r m) (completed (changed s (moves (onward 2 (s .control))) (missed r)) m)
+    cond (outside r m) (halts Halt.DataOutside s m)
     (completed (changed s (exec i x y (loadedFrom r m) (s .control)) r) (storedTo r x m))
 
 -- its operands are read first
@@ -90,18 +103,13 @@ perform i s m =
     s
     m
 
--- an entry, which reaches no register and no memory, with the timer's fall
-abbrev pub enters : Entry → Core → List ℕ → Outcome
-enters e s m = completed (changed s (moves (entered e (s .control))) Reach.Nowhere) m
-
 abbrev pub onFetched : Fetched → Core → List ℕ → Outcome
-onFetched (Fetched.Stop r) s m = stopped r
-onFetched Fetched.Outside s m = enters Entry.FetchError s m
+onFetched (Fetched.Halted h) s m = halts h s m
 onFetched (Fetched.Run i) s m = perform i s m
 
 -- what is chosen: an entry or an instruction (document 01, "One step", 1 to 3)
 abbrev pub onEvent : Event → Core → List ℕ → Outcome
-onEvent (Event.Enter e) s m = enters e s m
+onEvent (Event.Enter e) s m = enters e (s .control) s m
 onEvent Event.Instruction s m = onFetched (fetch (pcOf (s .control)) m) s m
 
 -- t is the tape's byte of this step

@@ -6,19 +6,19 @@ use mathlib.Core.Bool.{Bool, true, false, cond, _&&_, _||_}
 use mathlib.Core.List.{List, [], _∷_, _++_}
 use native.Mathlib.Omega.{arith}
 use lib.Dec.{ltb, leb, eqb}
-use lib.ListN.{length, getD, drop, length-drop}
+use lib.ListN.{length, getD, drop}
 use lib.Seq.{take-length}
 use borrow.Author.Tests.{ltb-true, ltb-false, lt-ltb, le-leb, leb-true, lt-leb, ne-eqb}
 use Rattle.isa.proofs.Rows.{and-left, and-right}
 use Rattle.text.specs.Digits.{glyphOf, digitsRead, digitsOf, zerosOf, leadingZero, decimalText, halfText}
 use Rattle.text.specs.declared.Read.{Read as Digits}
 use Rattle.text.specs.Words.{ascii}
-use Rattle.text.proofs.Theorems.{digits-length, read-decimal, read-written}
+use Rattle.text.proofs.Theorems.{digits-length, read-decimal, read-written, unled, decimal-some}
 use Rattle.listing.proofs.Laws.{half-digits}
 use Rattle.expr.specs.Expr.{Labels, isLetter, isDigit, runOf, isHex, counted, wordRead, leafOf}
 use Rattle.expr.specs.Value.{written}
 use Rattle.expr.specs.declared.Read.{Read}
-use Rattle.reassembly.proofs.Fields.{both}
+use Rattle.columns.proofs.Plain.{both}
 
 -- ---- decimal digits
 
@@ -48,34 +48,6 @@ digits-of (suc w) n = digits-append (digitsOf 10 w (n / 10)) (glyphOf (n % 10) �
 
 pub decimal-digits : (n : ℕ) → areDigits (decimalText n) ≡ true
 decimal-digits n = digits-drop (zerosOf (digitsOf 10 20 n)) (digitsOf 10 20 n) (digits-of 20 n)
-
--- without its leading zeros, a text has no leading zero, and has a digit if it had one
-unled : (l : List ℕ) → leadingZero (drop (zerosOf l) l) ≡ false
-unfolding zerosOf
-unled [] = refl
-unled (c ∷ []) = refl
-unled (c ∷ d ∷ l) = go (eqb c 48) refl (unled (d ∷ l))
-  where
-    go : (t : Bool) → eqb c 48 ≡ t → leadingZero (drop (zerosOf (d ∷ l)) (d ∷ l)) ≡ false
-        → leadingZero (drop (cond t (suc (zerosOf (d ∷ l))) 0) (c ∷ d ∷ l)) ≡ false
-    go true e q = q
-    go false e q = rw (lt-ltb 1 (suc (suc (length l))) (omega arith), e)
-
-fewer : (l : List ℕ) → 0 < length l → zerosOf l < length l
-unfolding zerosOf
-fewer [] h = h
-fewer (c ∷ []) h = h
-fewer (c ∷ d ∷ l) h = go (eqb c 48) (fewer (d ∷ l) (omega arith))
-  where
-    go : (t : Bool) → zerosOf (d ∷ l) < suc (length l) → cond t (suc (zerosOf (d ∷ l))) 0 < suc (suc (length l))
-    go true q = omega arith
-    go false q = omega arith
-
-pub decimal-some : (n : ℕ) → 0 < length (decimalText n)
-decimal-some n =
-    let w : length (digitsOf 10 20 n) ≡ 20 = digits-length 10 20 n in
-    let f : zerosOf (digitsOf 10 20 n) < length (digitsOf 10 20 n) = fewer (digitsOf 10 20 n) (omega arith) in
-    rw length-drop (omega arith)
 
 -- ---- what a word of digits says
 

@@ -4,22 +4,19 @@ use Prim.Native.Nat.{ℕ, _/_, _%_, _<_}
 use mathlib.Core.Path.{_≡_, refl, sym, ap, ap₂, _∙_}
 use mathlib.Core.Bool.{Bool, true, false, cond}
 use mathlib.Core.List.{List, [], _∷_, _++_, append-assoc, append-nil}
-use native.Mathlib.Omega.{arith}
 use lib.ListN.{drop}
 use Rattle.word.specs.declared.ByteAddr.{ByteAddr}
 use Rattle.word.proofs.Memory.{half-lt}
 use Rattle.isa.specs.declared.Encoded.{Encoded}
 use Rattle.text.specs.Digits.{halfText}
-use Rattle.text.proofs.Theorems.{pair-reads}
 use Rattle.listing.specs.Listing.{rowText, entryAt, sizeOf, secondText, operandText}
 use Rattle.listing.specs.declared.Operand.{Operand}
 use Rattle.listing.specs.declared.Row.{Row}
 use Rattle.listing.specs.declared.Entry.{Entry}
 use Rattle.listing.specs.Names.{nameAt}
-use Rattle.listing.proofs.Laws.{half-digits}
 use Rattle.columns.specs.Columns.{Bytes, bitsText, bytesRead, joined}
-use Rattle.columns.proofs.Plain.{plain-name}
-use Rattle.columns.proofs.Bits.{operand-tab, plain-field}
+use Rattle.columns.proofs.Plain.{plain-name, both}
+use Rattle.columns.proofs.Bits.{operand-tab, plain-field, half-read}
 use Rattle.expr.specs.Expr.{Labels, none}
 use Rattle.forms.specs.Form.{linesOf, bodyOf, fieldAt, isLabel, named, whatOf, whatIn, shapeOf, isKnown, isKnownAs, isKnownBody}
 use Rattle.forms.specs.Says.{bytesIn}
@@ -27,7 +24,7 @@ use Rattle.asm.specs.Assemble.{lineValue, lineBits, labelIn, labelCheck, fitChe
 use Rattle.forms.specs.declared.What.{What}
 use Rattle.asm.specs.declared.Checked.{Checked}
 use Rattle.reassembly.specs.Lines.{bodyFor, lineFor, whatShown, numberIn, bitsListed, Read}
-use Rattle.reassembly.proofs.Fields.{both, body-of, ended-by, field-label, isOne, one-append, one-plain, one-tab, lines-more, lines-none}
+use Rattle.reassembly.proofs.Fields.{body-of, ended-by, field-label, isOne, one-append, one-plain, one-tab, lines-more, lines-none}
 use Rattle.reassembly.proofs.Line.{Line, second-low, line-at}
 
 -- ---- lines are parted by their newlines
@@ -54,14 +51,6 @@ lines-of [] = lines-none
 lines-of (x ∷ l) = lines-more (bodyFor x) (joined lineFor l) (one-body x) ∙ ap (λ (r : List (List ℕ)). lineFor x ∷ r) (lines-of l)
 
 -- ---- one of them
-
-half-read : (h : ℕ) (l : List ℕ) → h < 65536 → bytesRead (halfText h ++ l) ≡ h / 256 ∷ h % 256 ∷ bytesRead l
-unfolding bytesRead
-half-read h l k =
-    let a : h / 4096 % 16 ≡ h / 256 / 16 = omega arith in
-    let b : h / 16 % 16 ≡ h % 256 / 16 = omega arith in
-    let c : h % 16 ≡ h % 256 % 16 = omega arith in
-    rw (half-digits h, a, b, c) (ap₂ (λ (x y : ℕ). x ∷ y ∷ bytesRead l) (pair-reads (h / 256) (omega arith)) (pair-reads (h % 256) (omega arith)))
 
 module _ (m : List ℕ) (a : ByteAddr) (e : ℕ) (bytes : Bytes m) (low : a .0 < 65536) where
   abbrev x : Entry

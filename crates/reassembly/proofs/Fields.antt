@@ -11,11 +11,8 @@ use lib.Seq.{take-length, take-at, getD-at}
 use borrow.Author.Tests.{ltb-true, eq-eqb, ne-eqb, not-true}
 use Rattle.isa.proofs.Rows.{and-left, and-right}
 use Rattle.text.specs.Fields.{tabOf, beforeOf, beyondOf}
-use Rattle.columns.proofs.Plain.{isPlain}
+use Rattle.columns.proofs.Plain.{isPlain, both}
 use Rattle.forms.specs.Form.{isEnded, bodyOf, tabsIn, fieldAt, ontoFirst, linesOf}
-
-pub both : (a b : Bool) → a ≡ true → b ≡ true → (a && b) ≡ true
-both a b e f = rw (e, f)
 
 -- ---- a text before a tab, or before the line's end
 

@@ -27,8 +27,8 @@ use Rattle.listing.specs.declared.Row.{Row}
 use Rattle.listing.specs.declared.Shown.{Shown}
 use Rattle.columns.specs.Columns.{Bytes}
 use Rattle.columns.proofs.Plain.{plain-name}
-use Rattle.columns.proofs.Bits.{fieldText, operand-tab}
-use Rattle.columns.proofs.Said.{Shows, whole, cut, shows}
+use Rattle.columns.proofs.Bits.{fieldText}
+use Rattle.columns.proofs.Said.{Shows, whole, cut, shows, row-tab}
 use Rattle.expr.specs.Expr.{Labels}
 use Rattle.forms.specs.Form.{fieldAt, whatAt, whatOf, kindShape, shapeOf}
 use Rattle.forms.specs.Says.{bitsOf, bitsAt}
@@ -76,12 +76,6 @@ sized h s (Kind.ShortJump op) = refl
 sized h s (Kind.LongJump op) = refl
 
 -- ---- what a line names
-
-row-tab : (r : Row) → rowText r ≡ 9 ∷ drop 1 (rowText r)
-unfolding rowText
-row-tab (Row.One x) = rw (operand-tab x)
-row-tab (Row.Two x y) = rw (operand-tab x)
-row-tab (Row.Three x y z) = rw (operand-tab x)
 
 name-field : (p : ℕ) (r : Row) → fieldAt 1 (9 ∷ (nameAt p ++ rowText r)) ≡ nameAt p
 name-field p r =

@@ -15,9 +15,10 @@ use Rattle.expr.specs.Expr.{Labels, none, isWhole, isSum, leafOf, signOf, signe
 use Rattle.expr.specs.Value.{fitted, applied, combined, negated, signedWord, written}
 use Rattle.expr.specs.declared.Read.{Read}
 use Rattle.expr.specs.declared.Value.{Value}
+use Rattle.text.proofs.Theorems.{decimal-some}
 use Rattle.expr.proofs.Laws.{items-all, operand-leaf}
 use Rattle.forms.specs.Says.{bitsOf}
-use Rattle.reassembly.proofs.Digits.{decimal-digits, decimal-some, digit-first, leaf-decimal, leaf-half, hexWord}
+use Rattle.reassembly.proofs.Digits.{decimal-digits, digit-first, leaf-decimal, leaf-half, hexWord}
 
 -- an operand that is all of its text is a sum
 pub all-sum : (t : Labels) (more : ℕ) (s : List ℕ) (v : Value) → operandOf t more s ≡ Read.Got v (length s) → sumOf t more s ≡ Read.Got v (length s)

@@ -54,7 +54,7 @@ sfr-same s (suc n) h = ap (λ (c : Control). sfrOf (suc n) c) (s .rest)
 sets-same : {m : Bool} {f : Flags} {a b : Control} (d v x : ℕ) → SameControl f a b → (m ≡ false → v ≡ x) → SameEffect (with m f) (putsReg d v a) (putsReg d x b)
 sets-same d v x s e = record { control = onwards s 2; reg = refl; value = e; wrote = refl }
 
-pub moves-same : {f : Flags} {a b : Control} → SameControl f a b → SameEffect (with false f) (moves a) (moves b)
+moves-same : {f : Flags} {a b : Control} → SameControl f a b → SameEffect (with false f) (moves a) (moves b)
 moves-same s = record { control = s; reg = refl; value = λ h. refl; wrote = refl }
 
 -- the two operands x and y with marks mx and my, in the second run u and w

@@ -20,29 +20,31 @@ use Rattle.cpu.specs.Exec.{exec, sourcesOf}
 use Rattle.cpu.specs.declared.Control.{Control}
 use Rattle.cpu.specs.declared.Effect.{Effect}
 use Rattle.cpu.specs.declared.Entry.{Entry}
-use Rattle.marks.specs.Marks.{with, taint, blocked}
+use Rattle.marks.specs.Marks.{taint, blocked}
 use Rattle.marks.specs.Memory.{markedAt}
 use Rattle.marks.specs.declared.Flags.{Flags}
 use Rattle.marks.specs.declared.Taint.{Taint}
 use Rattle.instruction.specs.Fetch.{halfAt, afterHalf, fetchOf}
-use Rattle.instruction.specs.Act.{reachOf, outside, missed, missing, loadedFrom, loadedMark, actOf}
+use Rattle.instruction.specs.Act.{reachOf, outside, loadedFrom, loadedMark, actOf}
 use Rattle.instruction.specs.Parts.{halfOf, firstHalf, secondHalf, isLongKind, bySecond, restBy, byFirst}
 use Rattle.instruction.specs.declared.Reply.{Reply}
+use Rattle.instruction.specs.declared.Halt.{Halt}
 use Rattle.instruction.specs.declared.Fetched.{Fetched}
 use Rattle.instruction.specs.declared.Half.{Half}
 use Rattle.instruction.specs.declared.Reach.{Reach}
 use Rattle.instruction.specs.declared.Act.{Act}
 use Rattle.instruction.proofs.Laws.{fetch-by-parts}
 use Rattle.machine.specs.State.{valueAt}
-use Rattle.machine.specs.Step.{Stepped, stopped, completed, lowest, chosen, storedTo, markedTo, entryBy, dataOf, entryDone, entryStep, doneOf, lineOf, actStep, instrStep, fetchStep, eventStep, stepOf}
+use Rattle.machine.specs.Step.{Stepped, stopped, completed, lowest, chosen, storedTo, markedTo, entryBy, dataOf, entryDone, doneOf, lineOf, haltStep, actStep, instrStep, fetchStep, eventStep, stepOf}
 use Rattle.machine.specs.declared.State.{State}
 use Rattle.machine.specs.declared.Event.{Event}
 use Rattle.machine.specs.declared.Done.{Done}
+use Rattle.machine.specs.declared.Data.{Data}
 use Rattle.machine.specs.declared.Line.{Line}
 use Rattle.secrecy.specs.Same.{SamePsw, SameControl, SameList, SameMem}
 use Rattle.secrecy.proofs.Psw.{bit-under, bit-over}
 use Rattle.secrecy.proofs.Control.{pc-same, onwards, falls, entries, breaks, watches}
-use Rattle.secrecy.proofs.Exec.{SameEffect, moves-same, exec-same, taint-same, reach-same}
+use Rattle.secrecy.proofs.Exec.{SameEffect, exec-same, taint-same, reach-same}
 use Rattle.secrecy.proofs.Memory.{loaded, stored, stored-each}
 
 -- ---- the relations
@@ -54,9 +56,11 @@ pub record SameDone (d e : Done) : Type 0 where
   pub mark : d .mark ≡ e .mark
   pub value : d .mark ≡ false → d .value ≡ e .value
 
-data SameAct : Act → Act → Type 0 where
-  halts : (r : Reply) → SameAct (Act.Stop r) (Act.Stop r)
-  does : {e g : Effect} (t : Taint) (r : Reach) → SameEffect t e g → SameAct (Act.Does e t r) (Act.Does g t r)
+-- an instruction in both runs, with its data address, which shows if it is a bus error; a marked base's does not
+data SameAct : Act → Data → Act → Data → Type 0 where
+  marked : (p q : Data) → SameAct (Act.Halted Halt.MarkedOperand) p (Act.Halted Halt.MarkedOperand) q
+  misses : (p : Data) → SameAct (Act.Halted Halt.DataOutside) p (Act.Halted Halt.DataOutside) p
+  does : {e g : Effect} (t : Taint) (r : Reach) (p : Data) → SameEffect t e g → SameAct (Act.Does e t r) p (Act.Does g t r) p
 
 pub data SameStep : Stepped → Stepped → Type 0 where
   stops : (r : Reply) → SameStep (stopped r) (stopped r)
@@ -102,23 +106,22 @@ module _ {k m n : List ℕ} (s : SameMem k m n) (each : length m ≡ length k) w
   half-same : (a : ByteAddr) → halfOf a m k ≡ halfOf a n k
   unfolding halfOf halfAt
   half-same a =
-      ap₂ (λ (l : ℕ) (x : Half). cond (not (leb (a .0 + 2) l)) Half.Outside x) (s .long)
-      (unless (markedAt Width.Half k a) (Half.Stop Reply.FetchMarked) _ _ (λ e. ap Half.Bits (loaded s each Width.Half a e)))
+      ap₂ (λ (l : ℕ) (x : Half). cond (not (leb (a .0 + 2) l)) (Half.Halted Halt.FetchOutside) x) (s .long)
+      (unless (markedAt Width.Half k a) (Half.Halted Halt.FetchMarked) _ _ (λ e. ap Half.Bits (loaded s each Width.Half a e)))
 
   rest-same : (d : Kind) (h : ℕ) (a : ByteAddr) → restBy d h a m k ≡ restBy d h a n k
   unfolding restBy secondHalf
   rest-same d h a = ap (λ (x : Half). bySecond (cond (isLongKind d) x (Half.Bits 0)) d h) (half-same (afterHalf a))
 
   by-first : (x : Half) (a : ByteAddr) → byFirst x a m k ≡ byFirst x a n k
-  by-first (Half.Stop r) a = refl
-  by-first Half.Outside a = refl
+  by-first (Half.Halted h) a = refl
   by-first (Half.Bits h) a = rest-same (kindOf (h / 256)) h a
 
   pub fetch-same : (a : ByteAddr) → fetchOf a m k ≡ fetchOf a n k
   unfolding firstHalf
   fetch-same a =
       fetch-by-parts a m k
-      ∙ ap (λ (x : Half). byFirst (cond (eqb (a .0 % 2) 1) (Half.Stop Reply.NoInstruction) x) a m k) (half-same a)
+      ∙ ap (λ (x : Half). byFirst (cond (eqb (a .0 % 2) 1) (Half.Halted Halt.NoInstruction) x) a m k) (half-same a)
       ∙ by-first (firstHalf a n k) a
       ∙ sym (fetch-by-parts a n k)
 
@@ -129,28 +132,24 @@ module _ {k m n : List ℕ} (s : SameMem k m n) (each : length m ≡ length k) w
   outside-same Reach.Nowhere = refl
   outside-same (Reach.Reads w a) = ap (λ (l : ℕ). not (leb (a .0 + bytesOf w) l)) (s .long)
   outside-same (Reach.Writes w a) = ap (λ (l : ℕ). not (leb (a .0 + bytesOf w) l)) (s .long)
-  outside-same (Reach.Outside a) = refl
   outside-same (Reach.Raises n) = refl
 
   loaded-same : (r : Reach) → loadedMark r k ≡ false → loadedFrom r m ≡ loadedFrom r n
   loaded-same Reach.Nowhere h = refl
   loaded-same (Reach.Reads w a) h = loaded s each w a h
   loaded-same (Reach.Writes w a) h = refl
-  loaded-same (Reach.Outside a) h = refl
   loaded-same (Reach.Raises n) h = refl
 
   stored-same : (r : Reach) (b : Bool) (v x : ℕ) → (b ≡ false → v ≡ x) → SameMem (markedTo r b k) (storedTo r v m) (storedTo r x n)
   stored-same Reach.Nowhere b v x f = s
   stored-same (Reach.Reads w a) b v x f = s
   stored-same (Reach.Writes w a) b v x f = stored s each w a b v x f
-  stored-same (Reach.Outside a) b v x f = s
   stored-same (Reach.Raises n) b v x f = s
 
   each-same : (r : Reach) (b : Bool) (v : ℕ) → length (storedTo r v m) ≡ length (markedTo r b k)
   each-same Reach.Nowhere b v = each
   each-same (Reach.Reads w a) b v = each
   each-same (Reach.Writes w a) b v = stored-each w k m a b v each
-  each-same (Reach.Outside a) b v = each
   each-same (Reach.Raises n) b v = each
 
 -- ---- an instruction
@@ -159,7 +158,6 @@ entry-same : {f : Flags} {a b : Control} (r : Reach) → SameControl f a b → e
 entry-same Reach.Nowhere s = refl
 entry-same (Reach.Reads w a) s = watches s a
 entry-same (Reach.Writes w a) s = watches s a
-entry-same (Reach.Outside a) s = refl
 entry-same (Reach.Raises n) s = refl
 
 entered-same : {f : Flags} {a b : Control} (r : Reach) → SameControl f a b → SameControl f (entered (entryBy r a) a) (entered (entryBy r b) b)
@@ -180,15 +178,15 @@ line-same : {f g : Flags} {a b : Control} → SameControl f a b → (r : Reach) 
 unfolding lineOf
 line-same s r e h c = ap₂ (λ (p : ℕ) (x : Entry). record { pc = record { 0 = p }; entry = x; address = dataOf r }) (pc-same s) (entry-same r c)
 
-does-by : {e g : Effect} {t u : Taint} (r : Reach) → t ≡ u → SameEffect t e g → SameAct (Act.Does e t r) (Act.Does g u r)
-does-by {e} {g} {t} r p s = subst (λ (v : Taint). SameAct (Act.Does e t r) (Act.Does g v r)) p (does t r s)
+does-by : {e g : Effect} {t u : Taint} (r : Reach) (p : Data) → t ≡ u → SameEffect t e g → SameAct (Act.Does e t r) p (Act.Does g u r) p
+does-by {e} {g} {t} r p q s = subst (λ (v : Taint). SameAct (Act.Does e t r) p (Act.Does g v r) p) q (does t r p s)
 
--- a test that answers the same in both runs
-choose : {a b c d : Act} (t u : Bool) → t ≡ u → SameAct a b → (t ≡ false → SameAct c d) → SameAct (cond t a c) (cond u b d)
-choose true true e p s = p
-choose false false e p s = s refl
-choose true false e p s = let z : _≡_ {A = ℕ} 0 1 = cc in absurd (omega arith)
-choose false true e p s = let z : _≡_ {A = ℕ} 0 1 = cc in absurd (omega arith)
+-- "data outside" answers the same in both runs
+choose : {a b : Act} (p : Data) (t u : Bool) → t ≡ u → SameAct a p b p → SameAct (cond t (Act.Halted Halt.DataOutside) a) p (cond u (Act.Halted Halt.DataOutside) b) p
+choose p true true e s = misses p
+choose p false false e s = s
+choose p true false e s = let z : _≡_ {A = ℕ} 0 1 = cc in absurd (omega arith)
+choose p false true e s = let z : _≡_ {A = ℕ} 0 1 = cc in absurd (omega arith)
 
 module _ {km : List Bool} {ra rb : List ℕ} (regs : SameList false km ra rb) {f : Flags} {a b : Control} (s : SameControl f a b) {k m n : List ℕ} (mem : SameMem k m n)
     (each : length m ≡ length k) where
@@ -199,12 +197,12 @@ module _ {km : List Bool} {ra rb : List ℕ} (regs : SameList false km ra rb) {f
   abbrev other : State
   other = record { regs = rb; marks = km; flags = f; control = b }
 
-  act-same : (i : Instr) (x y : ℕ) → SameAct (actOf i (valueAt one x) (valueAt one y) f a m k) (actOf i (valueAt other x) (valueAt other y) f b n k)
+  act-same : (i : Instr) (x y : ℕ)
+      → SameAct (actOf i (valueAt one x) (valueAt one y) f a m k) (dataOf (reachOf i (getD ra y 0) a))
+      (actOf i (valueAt other x) (valueAt other y) f b n k)
+      (dataOf (reachOf i (getD rb y 0) b))
   unfolding actOf
-  act-same i x y =
-      choose (blocked i my f) (blocked i my f) refl (halts Reply.MarkedOperand) (λ h.
-      subst (λ (r : Reach). SameAct (first (reachOf i (getD ra y 0) a)) (second r)) (reach-same i my (getD ra y 0) (getD rb y 0) (regs .equal y) s h)
-      (at-reach h (reachOf i (getD ra y 0) a)))
+  act-same i x y = go (blocked i my f) refl
     where
       mx : Bool
       mx = getD km x false
@@ -214,44 +212,67 @@ module _ {km : List Bool} {ra rb : List ℕ} (regs : SameList false km ra rb) {f
 
       first : Reach → Act
       first r =
-          cond (outside r m) (missing r f a)
+          cond (outside r m) (Act.Halted Halt.DataOutside)
           (Act.Does (exec i (getD ra x 0) (getD ra y 0) (loadedFrom r m) a) (taint i mx my (loadedMark r k) (tf a) f) r)
 
       second : Reach → Act
       second r =
-          cond (outside r n) (missing r f b)
+          cond (outside r n) (Act.Halted Halt.DataOutside)
           (Act.Does (exec i (getD rb x 0) (getD rb y 0) (loadedFrom r n) b) (taint i mx my (loadedMark r k) (tf b) f) r)
 
-      at-reach : blocked i my f ≡ false → (r : Reach) → SameAct (first r) (second r)
+      at-reach : blocked i my f ≡ false → (r : Reach) → SameAct (first r) (dataOf r) (second r) (dataOf r)
       at-reach h r =
-          choose (outside r m) (outside r n) (outside-same mem each r) (does (with false f) (missed r) (moves-same (onwards s 2))) (λ _.
-          does-by r (taint-same i mx my (loadedMark r k) s)
+          choose (dataOf r) (outside r m) (outside r n) (outside-same mem each r)
+          (does-by r (dataOf r) (taint-same i mx my (loadedMark r k) s)
           (exec-same i mx my (loadedMark r k) _ _ _ _ _ _ (regs .equal x) (regs .equal y) (loaded-same mem each r) s h))
+
+      here : Reach
+      here = reachOf i (getD ra y 0) a
+
+      there : Reach
+      there = reachOf i (getD rb y 0) b
+
+      go : (t : Bool) → blocked i my f ≡ t
+          → SameAct (cond t (Act.Halted Halt.MarkedOperand) (first here)) (dataOf here) (cond t (Act.Halted Halt.MarkedOperand) (second there)) (dataOf there)
+      go true h = marked (dataOf here) (dataOf there)
+      go false h =
+          subst (λ (r : Reach). SameAct (first here) (dataOf here) (second r) (dataOf r)) (reach-same i my (getD ra y 0) (getD rb y 0) (regs .equal y) s h)
+          (at-reach h here)
 
   -- ---- the step
 
-  acted : {A B : Act} → SameAct A B → (x : ℕ) → SameStep (actStep A (valueAt one x) a m k) (actStep B (valueAt other x) b n k)
-  acted (halts r) x = stops r
-  acted (does {e} {g} t r q) x =
-      subst (λ (l : Line). SameStep (actStep (Act.Does e t r) (valueAt one x) a m k) (completed (doneOf b g t r) (storedTo r (getD rb x 0) n) (markedTo r (getD km x false) k) l))
+  -- an entry, made on control parts that differ only where marked, with the program counter before the step
+  enters-same : (e : Entry) (p : Data) {u v : Control} → SameControl f u v
+      → SameStep (completed (entryDone e f u) m k (record { pc = pcOf a; entry = e; address = p })) (completed (entryDone e f v) n k (record { pc = pcOf b; entry = e; address = p }))
+  unfolding entryDone
+  enters-same e p {u} {v} r =
+      subst
+      (λ (z : ℕ). SameStep (completed (entryDone e f u) m k (record { pc = pcOf a; entry = e; address = p })) (completed (entryDone e f v) n k (record { pc = record { 0 = z }; entry = e; address = p })))
+      (pc-same s)
+      (goes _ (record { control = falls (entries r e) _ _ (bit-under (r .psw) 4 (lit≤ tt)); flags = refl; reg = refl; mark = refl; value = λ h. refl }) mem each)
+
+  halted : (h : Halt) (p : Data) → SameStep (haltStep h p f a m k) (haltStep h p f b n k)
+  halted Halt.FetchOutside p = enters-same Entry.FetchError Data.Nowhere s
+  halted Halt.FetchMarked p = stops Reply.FetchMarked
+  halted Halt.NoInstruction p = stops Reply.NoInstruction
+  halted Halt.MarkedOperand p = stops Reply.MarkedOperand
+  halted Halt.DataOutside p = enters-same Entry.DataError p (onwards s 2)
+
+  acted : {A B : Act} {p q : Data} → SameAct A p B q → (x : ℕ) → SameStep (actStep A p (valueAt one x) f a m k) (actStep B q (valueAt other x) f b n k)
+  acted (marked p q) x = stops Reply.MarkedOperand
+  acted (misses p) x = halted Halt.DataOutside p
+  acted (does {e} {g} t r p q) x =
+      subst (λ (l : Line). SameStep (actStep (Act.Does e t r) p (valueAt one x) f a m k) (completed (doneOf b g t r) (storedTo r (getD rb x 0) n) (markedTo r (getD km x false) k) l))
       (line-same s r e g (q .control))
       (goes (lineOf a e r) (done-same s t r q) (stored-same mem each r _ _ _ (regs .equal x)) (each-same mem each r _ _))
 
-  entered-alike : (e : Entry) → SameStep (entryStep e f a m k) (entryStep e f b n k)
-  unfolding entryDone
-  entered-alike e =
-      subst (λ (p : ℕ). SameStep (entryStep e f a m k) (completed (entryDone e f b) n k (record { pc = record { 0 = p }; entry = e; address = dataOf Reach.Nowhere })))
-      (pc-same s)
-      (goes _ (record { control = falls (entries s e) _ _ (bit-under (s .psw) 4 (lit≤ tt)); flags = refl; reg = refl; mark = refl; value = λ h. refl }) mem each)
-
   fetched : (x : Fetched) → SameStep (fetchStep x one m k) (fetchStep x other n k)
   unfolding instrStep
-  fetched (Fetched.Stop r) = stops r
-  fetched Fetched.Outside = entered-alike Entry.FetchError
+  fetched (Fetched.Halted h) = halted h Data.Nowhere
   fetched (Fetched.Run i) = acted (act-same i (sourcesOf i .first) (sourcesOf i .second)) (sourcesOf i .first)
 
   happened : (v : Event) → SameStep (eventStep v one m k) (eventStep v other n k)
-  happened (Event.Enter e) = entered-alike e
+  happened (Event.Enter e) = enters-same e Data.Nowhere s
   happened Event.Instruction =
       subst (λ (x : Fetched). SameStep (fetchStep (fetchOf (pcOf a) m k) one m k) (fetchStep x other n k))
       (ap (λ (p : ℕ). fetchOf (record { 0 = p }) m k) (pc-same s) ∙ fetch-same mem each (pcOf b))

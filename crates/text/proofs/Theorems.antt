@@ -111,7 +111,7 @@ pair-reads n h = rw (value-glyph (n / 16) (omega arith), value-glyph (n % 16) (o
 -- ---- decimals
 
 -- without its leading zeros, a text has no leading zero, and has a digit if it had one
-unled : (l : List ℕ) → leadingZero (drop (zerosOf l) l) ≡ false
+pub unled : (l : List ℕ) → leadingZero (drop (zerosOf l) l) ≡ false
 unfolding zerosOf
 unled [] = refl
 unled (c ∷ []) = refl
@@ -178,8 +178,8 @@ decimal-length w n low high h =
 pub decimal-most : (n : ℕ) → length (decimalText n) ≤ 20
 decimal-most n = rw (length-drop, twenty n) (omega arith)
 
-some : (n : ℕ) → 1 ≤ length (decimalText n)
-some n =
+pub decimal-some : (n : ℕ) → 0 < length (decimalText n)
+decimal-some n =
     let f : zerosOf (digitsOf 10 20 n) < length (digitsOf 10 20 n) = fewer (digitsOf 10 20 n) (rw (twenty n) (omega arith)) in
     rw length-drop (omega arith)
 
@@ -251,7 +251,7 @@ decimal-two n low high =
 -- a decimal of up to five digits reads back
 pub decimal-reads : (n : ℕ) → n < 100000 → decimalOf (decimalText n) ≡ Read.Number n
 decimal-reads n h =
-    rw (le-leb _ _ (some n), le-leb _ _ (decimal-length 5 n (omega arith) (omega arith) h), unled (digitsOf 10 20 n)) (read-decimal n (omega arith))
+    rw (le-leb 1 _ (decimal-some n), le-leb _ _ (decimal-length 5 n (omega arith) (omega arith) h), unled (digitsOf 10 20 n)) (read-decimal n (omega arith))
 
 -- two numbers never share a decimal
 pub decimals-differ : (n m : ℕ) → n < 10 ^ 20 → m < 10 ^ 20 → decimalText n ≡ decimalText m → n ≡ m

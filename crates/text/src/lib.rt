@@ -1,7 +1,7 @@
 // Text in the written form of our tools: fields parted by tabs, decimals without leading zeros, lower-case hex.
 ghost use mathlib.Core.Path.{_≡_};
 ghost use Prim.Native.Nat.{_≤_, _<_, _%_};
-ghost use lib.ListN.{length, getD, take};
+ghost use lib.ListN.{length, getD, take, drop};
 ghost use Rattle.text.specs.Digits.{valueOf, glyphOf, glyphs, digitsRead, digitsIn, digitsOf, leadingZero, decimalOf, addressOf, areHex, pairOf, hexText, halfText};
 ghost use Rattle.text.specs.Fields.{tabOf, beforeOf, beyondOf, sameOf};
 
@@ -30,6 +30,17 @@ pub fn start_part(l: &[u8], n: usize) -> &[u8]
         return &l[..n];
     }
     l
+}
+
+// What stands beyond the first n bytes.
+pub fn end_part(l: &[u8], n: usize) -> &[u8]
+    ensures { λ r. ⌜ now r ≡ drop n (now (l .entry)) ⌝ }
+{
+    if n < l.len() {
+        return &l[n..];
+    }
+    let end = l.len();
+    &l[end..]
 }
 
 fn tab_in(l: &[u8]) -> usize

@@ -3,6 +3,7 @@ ghost use mathlib.Core.Path.{_≡_};
 ghost use lib.ListN.{drop};
 ghost use Rattle.text.specs.Digits.{hexText, halfText, decimalText, signedText};
 ghost use Rattle.text.specs.Pages.{page, oneOn, writeOn};
+use crate::end_part;
 use crate::glyph;
 use crate::half_hex;
 use crate::hex;
@@ -11,17 +12,6 @@ use crate::hex;
 struct Spelling {
     digits: [u8; 20],
     from: usize,
-}
-
-// What stands beyond the first n bytes.
-fn end_part(l: &[u8], n: usize) -> &[u8]
-    ensures { λ r. ⌜ now r ≡ drop n (now (l .entry)) ⌝ }
-{
-    if n < l.len() {
-        return &l[n..];
-    }
-    let end = l.len();
-    &l[end..]
 }
 
 pub fn put(out: &mut [u8], at: usize, b: u8) -> usize

@@ -4,15 +4,15 @@ ghost use mathlib.Core.Bool.{false};
 ghost use lib.ListN.{getD};
 ghost use Rattle.cpu.specs.Control.{pcOf};
 ghost use Rattle.instruction.specs.Fetch.{fetchOf};
-ghost use Rattle.instruction.specs.Parts.{val};
-ghost use Rattle.machine.specs.Step.{dataOf, actStep, instrStep, fetchStep, stepOf};
-ghost use Rattle.machine.specs.declared.Data.{Data};
+ghost use Rattle.instruction.specs.Act.{reachOf};
+ghost use Rattle.machine.specs.Step.{dataOf, instrStep, fetchStep, stepOf};
 ghost use Rattle.trace.specs.Seen.{seenIn};
-ghost use Rattle.trace.specs.declared.Seen.{Seen};
+ghost use Rattle.trace.specs.Parts.{entryLine, seenHalt, seenAct};
 use cpu::Control;
 use cpu::Entry;
 use instruction::Act;
 use instruction::Fetched;
+use instruction::Halt;
 use instruction::Reach;
 use isa::Instr;
 use machine::Data;
@@ -20,6 +20,7 @@ use machine::Event;
 use machine::Line;
 use machine::State;
 use word::ByteAddr;
+use word::Width;
 
 // A step that stops shows nothing.
 pub enum Seen {
@@ -54,16 +55,63 @@ fn data_of(r: Reach) -> Data
         Reach::Nowhere => Data::Nowhere,
         Reach::Reads(_, a) => Data::At(a),
         Reach::Writes(_, a) => Data::At(a),
-        Reach::Outside(a) => Data::At(a),
         Reach::Raises(_) => Data::Nowhere,
     }
 }
 
-fn show_act(a: Act, x: u32, mx: bool, c: Control, m: &[u8], mk: &[u8]) -> Seen
-    ensures { λ r. ⌜ r ≡ seenIn (actStep a (val x mx) c (now (m .entry)) (now (mk .entry))) ⌝ }
+// The data address of an instruction whose base is v.
+fn address_of(i: Instr, v: u32, c: Control) -> Data
+    ensures { λ d. ⌜ d ≡ dataOf (reachOf i v c) ⌝ }
+{
+    match i {
+        Instr::Alu(_, _, _) => Data::Nowhere,
+        Instr::ShiftImm(_, _, _) => Data::Nowhere,
+        Instr::Cmp(_, _, _) => Data::Nowhere,
+        Instr::CmpImm(_, _, _) => Data::Nowhere,
+        Instr::Cond(_, _, _, _) => Data::Nowhere,
+        Instr::CondImm(_, _, _) => Data::Nowhere,
+        Instr::Ldrpc(_, n) => Data::At(cpu::data_address(Width::Word, c.pc, n)),
+        Instr::Imm(_, _, _) => Data::Nowhere,
+        Instr::Load(w, _, n, _) => Data::At(cpu::data_address(w, v, n)),
+        Instr::Store(w, _, n, _) => Data::At(cpu::data_address(w, v, n)),
+        Instr::Mfsfr(_, _) => Data::Nowhere,
+        Instr::Mtsfr(_, _) => Data::Nowhere,
+        Instr::Jr(_) => Data::Nowhere,
+        Instr::Jrl(_) => Data::Nowhere,
+        Instr::Jsfr(_) => Data::Nowhere,
+        Instr::Swint(_) => Data::Nowhere,
+        Instr::ShortJump(_, _) => Data::Nowhere,
+        Instr::LongJump(_, _) => Data::Nowhere,
+    }
+}
+
+fn entry_line(entry: Entry, address: Data, c: Control) -> Seen
+    ensures { λ r. ⌜ r ≡ entryLine entry address c ⌝ }
+{
+    Seen::Step(Line {
+        pc: ByteAddr(c.pc),
+        entry,
+        address,
+    })
+}
+
+fn show_halt(h: Halt, address: Data, c: Control) -> Seen
+    ensures { λ r. ⌜ r ≡ seenHalt h address c ⌝ }
+{
+    match h {
+        Halt::FetchOutside => entry_line(Entry::FetchError, Data::Nowhere, c),
+        Halt::FetchMarked => Seen::Nothing,
+        Halt::NoInstruction => Seen::Nothing,
+        Halt::MarkedOperand => Seen::Nothing,
+        Halt::DataOutside => entry_line(Entry::DataError, address, c),
+    }
+}
+
+fn show_act(a: Act, address: Data, c: Control) -> Seen
+    ensures { λ r. ⌜ r ≡ seenAct a address c ⌝ }
 {
     match a {
-        Act::Stop(_) => Seen::Nothing,
+        Act::Halted(h) => show_halt(h, address, c),
         Act::Does(e, _, r) => {
             let made = e.control;
             Seen::Step(Line {
@@ -87,18 +135,7 @@ fn show_instr(i: Instr, s: State, m: &[u8], mk: &[u8]) -> Seen
     let v = value_in(regs, o.second);
     let mv = mark_in(marks, o.second);
     let a = instruction::classes::act_on(i, u, mu, v, mv, s.flags.tf, s.flags.cy, c, m, mk);
-    show_act(a, u, mu, c, m, mk)
-}
-
-// An entry's line: it reaches no data.
-fn entry_line(entry: Entry, c: Control) -> Seen
-    ensures { λ r. ⌜ r ≡ Seen.Step (record { pc = pcOf c; entry = entry; address = Data.Nowhere }) ⌝ }
-{
-    Seen::Step(Line {
-        pc: ByteAddr(c.pc),
-        entry,
-        address: Data::Nowhere,
-    })
+    show_act(a, address_of(i, v, c), c)
 }
 
 fn show_fetch(s: State, m: &[u8], mk: &[u8]) -> Seen
@@ -106,8 +143,7 @@ fn show_fetch(s: State, m: &[u8], mk: &[u8]) -> Seen
 {
     let f = instruction::fetch::fetch(ByteAddr(s.control.pc), m, mk);
     match f {
-        Fetched::Stop(_) => Seen::Nothing,
-        Fetched::Outside => entry_line(Entry::FetchError, s.control),
+        Fetched::Halted(h) => show_halt(h, Data::Nowhere, s.control),
         Fetched::Run(i) => show_instr(i, s, m, mk),
     }
 }
@@ -118,7 +154,7 @@ pub fn show(t: u32, s: State, m: &[u8], mk: &[u8]) -> Seen
     let c = s.control;
     let e = machine::choose(t, c);
     match e {
-        Event::Enter(entry) => entry_line(entry, c),
+        Event::Enter(entry) => entry_line(entry, Data::Nowhere, c),
         Event::Instruction => show_fetch(s, m, mk),
     }
 }

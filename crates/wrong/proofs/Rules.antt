@@ -5,6 +5,7 @@ use mathlib.Core.Path.{_≡_, refl}
 use mathlib.Core.Bool.{Bool}
 use mathlib.Core.List.{List}
 use Rattle.cpu.specs.declared.Control.{Control}
+use Rattle.marks.specs.declared.Flags.{Flags}
 use Rattle.instruction.specs.Act.{Val, actOf}
 use Rattle.instruction.specs.declared.Reach.{Reach}
 use Rattle.instruction.specs.declared.Act.{Act}
@@ -13,6 +14,7 @@ use Rattle.machine.specs.Step.{Stepped, stopped, completed, markedTo, actStep, 
 use Rattle.machine.specs.Run.{Final, judge, goOn, stepsOf, judged, runOf}
 use Rattle.machine.specs.declared.State.{State}
 use Rattle.machine.specs.declared.Event.{Event}
+use Rattle.machine.specs.declared.Data.{Data}
 use Rattle.machine.specs.declared.Judged.{Judged}
 use Rattle.wrong.specs.Rules.{trueRules, actWith, markedWith, actStepWith, instrStepWith, fetchStepWith, eventStepWith, stepWith, stepsWith, judgedWith, runWith}
 
@@ -20,17 +22,15 @@ marked-true : (r : Reach) (b : Bool) (k : List ℕ) → markedWith trueRules r b
 marked-true Reach.Nowhere b k = refl
 marked-true (Reach.Reads w a) b k = refl
 marked-true (Reach.Writes w a) b k = refl
-marked-true (Reach.Outside a) b k = refl
 marked-true (Reach.Raises n) b k = refl
 
-act-true : (a : Act) (x : Val) (c : Control) (m k : List ℕ) → actStepWith trueRules a x c m k ≡ actStep a x c m k
-act-true (Act.Stop r) x c m k = refl
-act-true (Act.Does e t r) x c m k = rw marked-true
+act-true : (q : Act) (a : Data) (x : Val) (f : Flags) (c : Control) (m k : List ℕ) → actStepWith trueRules q a x f c m k ≡ actStep q a x f c m k
+act-true (Act.Halted h) a x f c m k = refl
+act-true (Act.Does e t r) a x f c m k = rw marked-true
 
 fetch-true : (f : Fetched) (s : State) (m k : List ℕ) → fetchStepWith trueRules f s m k ≡ fetchStep f s m k
 unfolding instrStepWith instrStep actWith actOf
-fetch-true (Fetched.Stop r) s m k = refl
-fetch-true Fetched.Outside s m k = refl
+fetch-true (Fetched.Halted h) s m k = refl
 fetch-true (Fetched.Run i) s m k = rw act-true
 
 event-true : (v : Event) (s : State) (m k : List ℕ) → eventStepWith trueRules v s m k ≡ eventStep v s m k

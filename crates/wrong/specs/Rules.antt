@@ -14,22 +14,23 @@ use Rattle.isa.specs.declared.Encoded.{Encoded}
 use Rattle.cpu.specs.Control.{pcOf, tf}
 use Rattle.cpu.specs.Exec.{exec, sourcesOf}
 use Rattle.cpu.specs.declared.Control.{Control}
-use Rattle.cpu.specs.declared.Entry.{Entry}
 use Rattle.marks.specs.Marks.{taint, blocked, with}
 use Rattle.marks.specs.Memory.{markAll}
 use Rattle.marks.specs.declared.Flags.{Flags}
 use Rattle.marks.specs.declared.Taint.{Taint}
 use Rattle.instruction.specs.Fetch.{fetchOf}
-use Rattle.instruction.specs.Act.{Val, reachOf, outside, missing, loadedFrom, loadedMark}
+use Rattle.instruction.specs.Act.{Val, reachOf, outside, loadedFrom, loadedMark}
 use Rattle.instruction.specs.declared.Reply.{Reply}
+use Rattle.instruction.specs.declared.Halt.{Halt}
 use Rattle.instruction.specs.declared.Fetched.{Fetched}
 use Rattle.instruction.specs.declared.Reach.{Reach}
 use Rattle.instruction.specs.declared.Act.{Act}
 use Rattle.machine.specs.State.{valueAt}
-use Rattle.machine.specs.Step.{Stepped, stopped, completed, chosen, storedTo, entryStep, doneOf, lineOf}
+use Rattle.machine.specs.Step.{Stepped, completed, chosen, storedTo, dataOf, entryStep, haltStep, doneOf, lineOf}
 use Rattle.machine.specs.Run.{Final, final, judge, goOn}
 use Rattle.machine.specs.declared.State.{State}
 use Rattle.machine.specs.declared.Event.{Event}
+use Rattle.machine.specs.declared.Data.{Data}
 use Rattle.machine.specs.declared.Judged.{Judged}
 use Rattle.wrong.specs.Models.{Model}
 
@@ -49,8 +50,8 @@ unmarked = record { tf = false; cy = false }
 
 unfoldable pub actWith : Rules → Instr → Val → Val → Flags → Control → List ℕ → List ℕ → Act
 actWith q i x y f c m k =
-    cond (q .blocked i (y .mark) f) (Act.Stop Reply.MarkedOperand)
-    (cond (outside (reachOf i (y .value) c) m) (missing (reachOf i (y .value) c) f c)
+    cond (q .blocked i (y .mark) f) (Act.Halted Halt.MarkedOperand)
+    (cond (outside (reachOf i (y .value) c) m) (Act.Halted Halt.DataOutside)
     (Act.Does (exec i (x .value) (y .value) (loadedFrom (reachOf i (y .value) c) m) c)
     (q .taint i (x .mark) (y .mark) (loadedMark (reachOf i (y .value) c) k) (tf c) f)
     (reachOf i (y .value) c)))
@@ -59,25 +60,25 @@ abbrev pub markedWith : Rules → Reach → Bool → List ℕ → List ℕ
 markedWith q Reach.Nowhere b k = k
 markedWith q (Reach.Reads w a) b k = k
 markedWith q (Reach.Writes w a) b k = q .stored w k a b
-markedWith q (Reach.Outside a) b k = k
 markedWith q (Reach.Raises n) b k = k
 
-abbrev pub actStepWith : Rules → Act → Val → Control → List ℕ → List ℕ → Stepped
-actStepWith q (Act.Stop r) x c m k = stopped r
-actStepWith q (Act.Does e t r) x c m k = completed (doneOf c e t r) (storedTo r (x .value) m) (markedWith q r (x .mark) k) (lineOf c e r)
+abbrev pub actStepWith : Rules → Act → Data → Val → Flags → Control → List ℕ → List ℕ → Stepped
+actStepWith q (Act.Halted h) a x f c m k = haltStep h a f c m k
+actStepWith q (Act.Does e t r) a x f c m k = completed (doneOf c e t r) (storedTo r (x .value) m) (markedWith q r (x .mark) k) (lineOf c e r)
 
 unfoldable pub instrStepWith : Rules → Instr → State → List ℕ → List ℕ → Stepped
 instrStepWith q i s m k =
     actStepWith q
     (actWith q i (valueAt s (sourcesOf i .first)) (valueAt s (sourcesOf i .second)) (s .flags) (s .control) m k)
+    (dataOf (reachOf i (valueAt s (sourcesOf i .second) .value) (s .control)))
     (valueAt s (sourcesOf i .first))
+    (s .flags)
     (s .control)
     m
     k
 
 abbrev pub fetchStepWith : Rules → Fetched → State → List ℕ → List ℕ → Stepped
-fetchStepWith q (Fetched.Stop r) s m k = stopped r
-fetchStepWith q Fetched.Outside s m k = entryStep Entry.FetchError (s .flags) (s .control) m k
+fetchStepWith q (Fetched.Halted h) s m k = haltStep h Data.Nowhere (s .flags) (s .control) m k
 fetchStepWith q (Fetched.Run i) s m k = instrStepWith q i s m k
 
 abbrev pub eventStepWith : Rules → Event → State → List ℕ → List ℕ → Stepped

@@ -183,12 +183,12 @@ fn step_lines(input: &Input) -> Vec<String> {
 }
 
 /// Whether the step's entry took the place of an instruction. That of a swint and that of a
-/// watchpoint, which has an address, come with theirs.
+/// watchpoint, which has an address, come with theirs; a bus error comes by one.
 fn took_its_place(step: &Step) -> bool {
     match step.entry {
         Some(Entry::Timer | Entry::External(_)) => true,
         Some(Entry::Debug(_)) => step.address.is_none(),
-        Some(Entry::Swint(_)) | None => false,
+        Some(Entry::Swint(_) | Entry::BusError(_)) | None => false,
     }
 }
 

@@ -172,13 +172,22 @@ fn a_stop_shows_bits_that_are_no_instruction() {
     let no_instruction = step_lines(&input(&[], &State { pc: 2, ..State::fresh() }, 1));
     let words = "step 1 stops with 13 (bits that are no instruction): pc 2 ";
     assert_eq!(no_instruction, [words.to_string() + "00000002\t0000\thalf\t0x0000"]);
+}
+
+#[test]
+fn a_bus_error_shows_what_brought_it() {
     let outside = step_lines(&input(&[], &State { pc: 32, ..State::fresh() }, 1));
-    let words = "step 1 stops with 11 (instruction fetch outside memory): pc 20 outside memory";
-    assert_eq!(outside, [words]);
+    let step = "step 1: Step { pc: 20, entry: Some(BusError(Fetch)), address: None } ";
+    assert_eq!(outside, [step.to_string() + "outside memory"]);
     let mut cut = input(&[], &State { pc: 30, ..State::fresh() }, 1);
     cut.memory[30] = 0xf0;
-    let words = "step 1 stops with 11 (instruction fetch outside memory): pc 1e ";
-    assert_eq!(step_lines(&cut), [words.to_string() + "0000001e\tf000\thalf\t0xf000"]);
+    let step = "step 1: Step { pc: 1e, entry: Some(BusError(Fetch)), address: None } ";
+    assert_eq!(step_lines(&cut), [step.to_string() + "0000001e\tf000\thalf\t0xf000"]);
+    let mut state = State::fresh();
+    state.registers[2].value = 33;
+    let load = step_lines(&input(&[("ldr", &[1, 0, 2])], &state, 1));
+    let step = "step 1: Step { pc: 0, entry: Some(BusError(Data)), address: Some(20) } ";
+    assert_eq!(load, [step.to_string() + "00000000\t8012\tldr\tr1\t0\tr2"]);
 }
 
 /// An interrupt and a breakpoint take an instruction's place; a watchpoint comes after one.

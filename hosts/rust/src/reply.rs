@@ -2,7 +2,8 @@
 
 use std::fmt;
 
-/// A reply of document 01. Its number is document 01's.
+/// A reply of document 01. Its number is document 01's. An access outside memory ends no run: it is
+/// a bus error, an entry like others (document 02).
 #[derive(Clone, Copy, Debug, PartialEq, Eq, Hash)]
 pub enum Reply {
     /// Memory length is 0, above 65,536, or no multiple of 4.
@@ -19,16 +20,12 @@ pub enum Reply {
     TapeByte = 6,
     /// Budget used up.
     BudgetUsed = 10,
-    /// Instruction fetch outside memory.
-    FetchOutside = 11,
     /// Instruction fetch from a marked byte.
     FetchMarked = 12,
     /// Bits that are no instruction.
     NoInstruction = 13,
     /// A marked operand where none may be.
     OperandMarked = 14,
-    /// Load or store outside memory.
-    DataOutside = 15,
 }
 
 impl Reply {
@@ -47,11 +44,9 @@ impl Reply {
             5 => Reply::TapeLength,
             6 => Reply::TapeByte,
             10 => Reply::BudgetUsed,
-            11 => Reply::FetchOutside,
             12 => Reply::FetchMarked,
             13 => Reply::NoInstruction,
             14 => Reply::OperandMarked,
-            15 => Reply::DataOutside,
             _ => return None,
         })
     }
@@ -76,11 +71,9 @@ impl fmt::Display for Reply {
             Reply::TapeLength => "tape shorter than the budget",
             Reply::TapeByte => "a byte above 63 among the first \"budget\" tape bytes",
             Reply::BudgetUsed => "budget used up",
-            Reply::FetchOutside => "instruction fetch outside memory",
             Reply::FetchMarked => "instruction fetch from a marked byte",
             Reply::NoInstruction => "bits that are no instruction",
             Reply::OperandMarked => "a marked operand where none may be",
-            Reply::DataOutside => "load or store outside memory",
         })
     }
 }

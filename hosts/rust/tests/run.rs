@@ -121,14 +121,31 @@ fn no_step_is_made_with_budget_0() {
 }
 
 #[test]
-fn stops_11_to_15() {
-    stops(&EXAMPLE, |rig| rig.state.pc = 16, Reply::FetchOutside, 0);
+fn stops_12_to_14() {
     stops(&EXAMPLE, |rig| rig.marks[3] = 1, Reply::FetchMarked, 1);
     stops(&[0x71, 0x10, 0xfc, 0x00], |_| (), Reply::NoInstruction, 1);
     // jr r1 with r1 marked.
     stops(&[0x1c, 0x01], |rig| rig.state.registers[1].marked = true, Reply::OperandMarked, 0);
-    // ldr r1 from r2 + 0, at the end of memory.
-    stops(&[0x80, 0x12], |rig| rig.state.registers[2].value = 16, Reply::DataOutside, 0);
+}
+
+/// Document 02: an access outside memory is an entry at IBASE with low byte 16.
+#[test]
+fn bus_errors() {
+    let entered = |change: fn(&mut Rig), psw, ipc| {
+        // ldr r1 from r2 + 0.
+        let mut rig = Rig::with(&[0x80, 0x12]);
+        rig.state.registers[1] = Register { value: 7, marked: true };
+        change(&mut rig);
+        (rig.tape, rig.budget) = (vec![0], 1);
+        let mut after = rig.clone();
+        (after.state.pc, after.state.psw, after.state.ipc) = (16, psw, ipc);
+        assert_eq!(rig.run(), (Reply::BudgetUsed, 1));
+        assert_eq!(rig, after);
+    };
+    entered(|rig| rig.state.pc = 16, 1 << 3 | 1 << 15, 16);
+    entered(|rig| rig.state.registers[2].value = 16, 1 << 3 | 1 << 14, 2);
+    // The handler is outside too.
+    stops(&EXAMPLE, |rig| rig.state.pc = 16, Reply::BudgetUsed, 3);
 }
 
 #[test]
@@ -197,7 +214,7 @@ fn records_out_of_shape_change_nothing() {
 #[test]
 fn a_reply_has_its_number() {
     for number in (0..32).chain([u32::MAX]) {
-        let known = matches!(number, 1..=6 | 10..=15);
+        let known = matches!(number, 1..=6 | 10 | 12..=14);
         assert_eq!(Reply::from_number(number).map(Reply::number), known.then_some(number));
     }
 }

@@ -1,8 +1,9 @@
 //! How the edges are written down: a busy machine with some code, and what is special about it.
 
-use super::Case;
+use super::{Case, Promise};
 use crate::isa::{encode, mnemonics, Halves};
 use crate::state::{Register, State};
+use crate::step::Access;
 
 /// The length of memory in an edge that doesn't say another one.
 pub const LENGTH: u32 = 64;
@@ -33,7 +34,7 @@ fn halves(&(name, given): &Line) -> Vec<u16> {
 }
 
 /// A state in form in which everything holds something; nothing is enabled or marked. Entries go
-/// to 4, 8 and 12.
+/// to 4, 8, 12 and 16.
 pub fn busy_state() -> State {
     let mut state = State::fresh();
     for (n, register) in (1..).zip(&mut state.registers) {
@@ -59,9 +60,8 @@ pub fn edge(name: impl Into<String>, code: &[Line]) -> Case {
     let memory = busy_bytes(LENGTH);
     let marks = vec![0; memory.len()];
     let (name, state) = (name.into(), busy_state());
-    let case =
-        Case { name, state, memory, marks, tape: vec![0], budget: 1, promise: Some((10, 1)) };
-    case.at(0, code)
+    let case = Case { name, state, memory, marks, tape: Vec::new(), budget: 0, promise: None };
+    case.steps(1).at(0, code)
 }
 
 impl Case {
@@ -128,8 +128,8 @@ impl Case {
     pub fn lines(mut self, tape: &[u8]) -> Case {
         self.tape = tape.to_vec();
         self.budget = tape.len() as u32;
-        self.promise = Some((10, self.budget.into()));
-        self
+        let steps = self.budget.into();
+        self.gives(10, steps)
     }
 
     /// Runs this many steps with all lines low; all complete.
@@ -137,9 +137,16 @@ impl Case {
         self.lines(&vec![0; budget])
     }
 
-    /// The documents promise this reply after so many steps.
+    /// The documents promise this reply after so many steps, the last of which is no bus error.
     pub fn gives(mut self, reply: u32, steps: u64) -> Case {
-        self.promise = Some((reply, steps));
+        self.promise = Some(Promise { reply, steps, bus_error: None });
+        self
+    }
+
+    /// The last of the promised steps is a bus error.
+    pub fn bus_error(mut self, access: Access) -> Case {
+        let promise = self.promise.as_mut().expect("steps are promised");
+        promise.bus_error = Some(access);
         self
     }
 

@@ -4,7 +4,7 @@ use super::{Case, REPLIES};
 use crate::isa::{decode, mnemonics};
 use crate::run::Outcome;
 use crate::state::{hwdbg, State};
-use crate::step::{step, Entry};
+use crate::step::{step, Access, Entry};
 
 /// Counts with their names, in a fixed order.
 pub struct Coverage {
@@ -16,7 +16,8 @@ pub struct Coverage {
 }
 
 /// The kinds of entry.
-const ENTRIES: [&str; 5] = ["swint", "breakpoint", "watchpoint", "timer", "external"];
+const ENTRIES: [&str; 7] =
+    ["swint", "breakpoint", "watchpoint", "timer", "external", "fetch bus error", "data bus error"];
 
 /// How often these cases reach each mnemonic, each reply and each kind of entry.
 pub fn coverage(cases: &[Case]) -> Coverage {
@@ -66,7 +67,7 @@ impl Coverage {
             if let Some(entry) = entry.and_then(|name| ENTRIES.iter().position(|&e| e == name)) {
                 self.count(first_entry + entry);
             }
-            // The other entries take the place of an instruction.
+            // The other entries take the place of an instruction, or of what it would have done.
             if matches!(entry, None | Some("swint" | "watchpoint")) {
                 let line = first_byte.and_then(|byte| self.line_of_byte[usize::from(byte)]);
                 self.count(line.expect("an instruction was done"));
@@ -102,5 +103,7 @@ const fn entry_name(entry: Entry) -> &'static str {
         Entry::Debug(_) => "watchpoint",
         Entry::Timer => "timer",
         Entry::External(_) => "external",
+        Entry::BusError(Access::Fetch) => "fetch bus error",
+        Entry::BusError(Access::Data) => "data bus error",
     }
 }

@@ -1,6 +1,8 @@
-//! Document 01's edges as named cases, one group for each part of it.
+//! Document 01's edges as named cases, one group for each part of it, and those of document 02's
+//! tickets.
 
 mod accesses;
+mod bus_errors;
 mod entries;
 mod jumps;
 mod marks;
@@ -22,6 +24,7 @@ pub fn edges() -> Vec<Case> {
         words::cases(),
         marks::cases(),
         replies::cases(),
+        bus_errors::cases(),
     ]
     .concat()
 }

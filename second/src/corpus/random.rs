@@ -1,9 +1,9 @@
 //! Generated cases: code that goes on for a while, marked data, lines, a timer, break- and
-//! watchpoints that hit, corners of memory, and now and then a fault that is refused.
+//! watchpoints that hit, corners of memory, bus errors, and now and then a fault that is refused.
 
 use super::Case;
 use crate::isa::{encode, mnemonics, Halves, Instr};
-use crate::state::{psw, Register, State};
+use crate::state::{hwdbg, psw, Register, State};
 use crate::word::sign_extend;
 
 /// `n` cases, the same for the same seed.
@@ -69,17 +69,18 @@ impl Generator {
         case
     }
 
-    /// Mostly short ones.
+    /// Mostly short ones. Up to 16 there is no room for a handler of bus errors.
     fn length(&mut self) -> u32 {
         match self.below(40) {
             0 => self.pick(&[256, 260, 384, 512]),
             1 => 4,
             2 => 8,
-            _ => self.pick(&[16, 16, 20, 24, 32, 32, 40, 48, 48, 64, 64, 96]),
+            _ => self.pick(&[16, 20, 20, 24, 32, 32, 40, 48, 48, 64, 64, 96]),
         }
     }
 
-    /// Mostly instructions; some bytes of any kind. Often the end leads back, so that code runs on.
+    /// Mostly instructions; some bytes of any kind. Often the end leads back, so that code runs on;
+    /// sometimes it cuts a long jump.
     fn memory(&mut self, length: u32) -> Vec<u8> {
         let strange = self.pick(&[200, 200, 200, 40, 2]);
         let mut memory = Vec::new();
@@ -97,10 +98,12 @@ impl Generator {
             }
         }
         memory.truncate(length as usize);
-        if length >= 16 && !self.once_in(3) {
-            let back = 0xf400 | (0x400 - self.below(length / 2)) & 0x3ff;
-            memory[length as usize - 2..].copy_from_slice(&(back as u16).to_be_bytes());
-        }
+        let last = match self.below(9) {
+            0..6 if length >= 16 => 0xf400 | (0x400 - self.below(length / 2)) & 0x3ff,
+            6 => self.pick(&[0xe000, 0xe800, 0xf000, 0xf800]),
+            _ => return memory,
+        };
+        memory[length as usize - 2..].copy_from_slice(&(last as u16).to_be_bytes());
         memory
     }
 
@@ -190,7 +193,7 @@ impl Generator {
         });
         state.pc = match self.below(20) {
             0 => self.value(length) & !1,
-            1 => length - self.pick(&[0, 2, 4]),
+            1 => length - self.pick(&[0, 2, 2, 4]),
             _ => self.below(length / 2 + 1) & !1,
         };
         state.psw = self.psw();
@@ -230,6 +233,21 @@ impl Generator {
             let offset = self.pick(&[0, 0, 0, 1, 2, 4, 8, 12]);
             *place = base.wrapping_add(offset) & !self.pick(&[3, 3, 3, 1, 0]);
         }
+        if self.once_in(6) {
+            self.watch_outside(state, length);
+        }
+    }
+
+    /// Some registers hold an address behind memory, where enabled watchpoints are.
+    fn watch_outside(&mut self, state: &mut State, length: u32) {
+        let address = length + self.pick(&[0, 0, 4, 8]);
+        for register in &mut state.registers[8..] {
+            if self.once_in(2) {
+                register.value = address;
+            }
+        }
+        (state.wp0, state.wp1) = (address, address);
+        state.hwdbg |= self.pick(&[hwdbg::WP0, hwdbg::WP1, hwdbg::WP0 | hwdbg::WP1]);
     }
 
     /// Often with interrupts permitted; bit 12 is clear.

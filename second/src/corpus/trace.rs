@@ -14,6 +14,7 @@ pub fn trace_line(step: Step) -> TraceLine {
         Some(Entry::Debug(hits)) => (b'd', hits >> hwdbg::HITS_SHIFT),
         Some(Entry::Timer) => (b't', 0),
         Some(Entry::External(line)) => (b'e', line),
+        Some(Entry::BusError(_)) => (b'b', 0),
     };
     let shown = u8::try_from(shown).expect("no entry shows more than four bits");
     let mut line = TraceLine::default();

@@ -1,6 +1,6 @@
 //! "Edges" and "Easy slips".
 
-use crate::rig::{Rig, LENGTH};
+use crate::rig::{Rig, DBER, IBER, LENGTH};
 
 #[test]
 fn a_halfword_at_the_last_two_bytes_of_memory_loads() {
@@ -14,46 +14,51 @@ fn a_halfword_at_the_last_two_bytes_of_memory_loads() {
     });
 }
 
+/// What was 15 is a bus error since ticket 5, and so is what was 11.
 #[test]
-fn a_word_at_the_address_equal_to_the_length_gives_15() {
+fn a_word_at_the_address_equal_to_the_length_gives_a_bus_error() {
     for (half, last) in [(0x8035, LENGTH - 4), (0x9035, LENGTH - 4)] {
         let mut rig = Rig::busy(&[half]);
         rig.set(5, LENGTH);
-        rig.assert_stops(15);
+        rig.assert_bus_error(DBER, 2);
         rig.set(5, last);
         assert_eq!(rig.run_steps(1), (10, 1), "the last word is inside");
     }
 }
 
 #[test]
-fn every_access_beyond_the_last_byte_gives_15() {
+fn every_access_beyond_the_last_byte_gives_a_bus_error() {
     for half in [0x8035, 0x9035, 0xa035, 0xb035, 0xc035, 0xd035] {
         for base in [LENGTH, LENGTH + 1, LENGTH + 4, 0x1_0000, 0x8000_0000, u32::MAX] {
             let mut rig = Rig::busy(&[half]);
             rig.set(5, base);
-            rig.assert_stops(15);
+            rig.assert_bus_error(DBER, 2);
         }
         // Alignment brings the last addresses back inside.
         for base in LENGTH - 4..LENGTH {
             let mut rig = Rig::busy(&[half]);
             rig.set(5, base);
             assert_eq!(rig.run_steps(1), (10, 1), "{half:#06x} at {base}");
+            assert_eq!(rig.state.pc, 2, "{half:#06x} at {base}");
         }
     }
 }
 
 /// ldrpc reaches 1,020 bytes beyond its own address.
 #[test]
-fn ldrpc_beyond_the_last_word_gives_15() {
+fn ldrpc_beyond_the_last_word_gives_a_bus_error() {
     let mut rig = Rig::busy(&[0x4130, 0x413f, 0x4230]); // 16, 31 and 32 words ahead
-    for (pc, reply) in [(0, (10, 1)), (2, (10, 1)), (4, (15, 0))] {
+    for pc in [0, 2] {
         rig.state.pc = pc;
-        assert_eq!(rig.run_steps(1), reply, "at {pc}");
+        assert_eq!(rig.run_steps(1), (10, 1), "at {pc}");
+        assert_eq!(rig.state.pc, pc + 2);
     }
+    rig.state.pc = 4;
+    rig.assert_bus_error(DBER, 6);
 }
 
 #[test]
-fn a_movi_at_the_end_completes_and_the_next_step_gives_11() {
+fn a_movi_at_the_end_completes_and_the_next_step_gives_a_bus_error() {
     let mut rig = Rig::busy(&[]);
     rig.place(LENGTH - 2, &[0x7110]);
     rig.state.pc = LENGTH - 2;
@@ -61,7 +66,7 @@ fn a_movi_at_the_end_completes_and_the_next_step_gives_11() {
         after.state.pc = LENGTH;
         after.set(1, 16);
     });
-    after.assert_stops(11);
+    after.assert_bus_error(IBER, LENGTH);
 }
 
 /// "... if nothing is entered".
@@ -89,22 +94,22 @@ fn the_edges_are_where_the_memory_ends() {
             after.state.pc = length;
             after.set(3, 0xa035);
         });
-        after.assert_stops(11);
+        after.assert_bus_error(IBER, length);
         rig.place(length - 2, &[0x8035]); // ldr r3 from r5
         rig.assert_step(|after| {
             after.state.pc = length;
             after.set(3, 0x1111_8035);
         });
         rig.set(5, length);
-        rig.assert_stops(15);
+        rig.assert_bus_error(DBER, length);
     }
 }
 
 #[test]
-fn a_jump_below_address_0_wraps_and_the_next_step_gives_11() {
+fn a_jump_below_address_0_wraps_and_the_next_step_gives_a_bus_error() {
     let rig = Rig::busy(&[0xf7ff]); // sj, -2
     let after = rig.assert_step(|after| after.state.pc = 0xffff_fffe);
-    after.assert_stops(11);
+    after.assert_bus_error(IBER, 0xffff_fffe);
 }
 
 #[test]

@@ -396,9 +396,10 @@ fn mtsfr_writes_the_whole_word() {
     }
 }
 
+/// "mtsfr psw may now write bits 14 and 15" (document 02, ticket 5).
 #[test]
-fn mtsfr_psw_keeps_bits_12_14_15_and_26_to_31() {
-    let kept = 1 << 12 | 1 << 14 | 1 << 15 | 63 << 26;
+fn mtsfr_psw_keeps_bits_12_and_26_to_31() {
+    let kept = 1 << 12 | 63 << 26;
     for before in [0, BUSY_PSW, !(1 << 12)] {
         for value in [0, u32::MAX, BUSY_PSW, !BUSY_PSW, 0x1234_5678, 1 << 12] {
             let mut rig = machine(&[0x1305], 0, value, 0);
@@ -573,7 +574,8 @@ fn long_jumps_have_26_signed_bits_and_jl_sets_ra() {
     }
 }
 
-/// "PSW bits for these are stored and do nothing": power down, caches, single step, bus errors.
+/// "PSW bits for these are stored and do nothing": power down, caches, single step. Those that show
+/// a bus error do nothing either.
 #[test]
 fn psw_bits_of_what_is_not_built_do_nothing() {
     for bit in [7, 10, 11, 13, 14, 15] {

@@ -1,5 +1,7 @@
-//! The machine against document 01, one module for each of its headings.
+//! The machine against document 01, one module for each of its headings, and against the tickets of
+//! document 02 that change it.
 
+mod bus_errors;
 #[path = "../generator/cases.rs"]
 mod cases;
 mod edges;

@@ -1,6 +1,6 @@
 //! "One step": interrupts, breakpoints, watchpoints and entries.
 
-use crate::rig::{access, byte_immediate, Rig, BUSY_PSW, LENGTH};
+use crate::rig::{access, byte_immediate, Rig, BUSY_PSW, DBER, LENGTH};
 
 const SW: u32 = 1 << 0;
 const EI: u32 = 1 << 1;
@@ -369,14 +369,14 @@ fn a_watchpoint_hits_after_its_instruction_in_the_same_step() {
 }
 
 #[test]
-fn an_access_outside_memory_stops_and_hits_no_watchpoint() {
+fn an_access_outside_memory_hits_no_watchpoint() {
     for (top, ..) in ACCESSES {
         let mut rig = permitting();
         rig.place(0, &[access(top, 0, 3, 5)]);
         rig.set(5, LENGTH);
         rig.state.hwdbg |= 0b11 << 4;
         (rig.state.wp0, rig.state.wp1) = (LENGTH, LENGTH);
-        rig.assert_stops(15);
+        rig.assert_bus_error(DBER, 2);
     }
 }
 

@@ -5,7 +5,7 @@ use std::collections::HashSet;
 use second::isa::{decode, mnemonics, Instr};
 use second::reply::Reply;
 use second::run::{run, run_observed, Outcome};
-use second::step::{Entry, Step};
+use second::step::{Access, Entry, Step};
 
 use crate::cases::Case;
 use crate::generator::Generator;
@@ -56,7 +56,8 @@ fn instruction(rig: &Rig) -> Option<Instr> {
 fn every_entry() -> impl Iterator<Item = Entry> {
     let hits = [0b001, 0b010, 0b100, 0b110].map(|hits| Entry::Debug(hits << 6));
     let lines = (0..6).map(Entry::External);
-    (0..16).map(Entry::Swint).chain(hits).chain([Entry::Timer]).chain(lines)
+    let bus_errors = [Access::Fetch, Access::Data].map(Entry::BusError);
+    (0..16).map(Entry::Swint).chain(hits).chain([Entry::Timer]).chain(lines).chain(bus_errors)
 }
 
 /// The cases are no good if they don't come everywhere.
@@ -64,6 +65,7 @@ fn every_entry() -> impl Iterator<Item = Entry> {
 fn the_cases_reach_every_stop_every_entry_and_every_mnemonic() {
     let (mut replies, mut entries, mut done) = (HashSet::new(), HashSet::new(), HashSet::new());
     let (mut steps, mut watched) = (0, 0);
+    let is_hit = |entry| matches!(entry, Some(Entry::Debug(_)));
     for_each_case(1, |case, _| {
         let mut machine = rig(&case);
         for &lines in &case.tape {
@@ -74,13 +76,13 @@ fn the_cases_reach_every_stop_every_entry_and_every_mnemonic() {
             let [step] = shown[..] else { break };
             steps += 1;
             entries.insert(step.entry);
-            watched += u32::from(step.entry.is_some() && step.address.is_some());
+            watched += u32::from(is_hit(step.entry) && step.address.is_some());
             if step.entry.is_none() {
                 done.insert(instr.expect("it was done").mnemonic());
             }
         }
     });
-    assert_eq!(replies.len(), 6, "{replies:?}");
+    assert_eq!(replies.len(), 4, "{replies:?}");
     assert_eq!(entries, every_entry().map(Some).chain([None]).collect());
     assert_eq!(done.len(), mnemonics().len() - 1, "all but swint, which is an entry");
     assert!(watched > 500, "{watched} watchpoints hit");
@@ -110,6 +112,11 @@ fn shown_after(entry: Entry, rig: &Rig) -> (Entry, u32) {
         Entry::External(_) => {
             let line = (0..6).find(|line| psw >> 26 == 1 << line);
             (Entry::External(line.expect("one line is shown")), 12)
+        }
+        Entry::BusError(access) => {
+            let bit = if access == Access::Fetch { 15 } else { 14 };
+            assert_eq!(psw >> bit & 1, 1, "{access:?}");
+            (entry, 16)
         }
     }
 }

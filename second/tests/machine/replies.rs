@@ -4,7 +4,7 @@ use second::reply::Reply;
 use second::run::run;
 use second::step::{step, Entry};
 
-use crate::rig::{Rig, LENGTH};
+use crate::rig::{Rig, DBER, IBER, LENGTH};
 
 /// movi r1,16, which always completes.
 const MOVI: u16 = 0x7110;
@@ -55,11 +55,9 @@ fn the_numbers_are_those_of_the_table() {
         (5, Reply::TapeLength),
         (6, Reply::TapeByte),
         (10, Reply::BudgetUsed),
-        (11, Reply::FetchOutside),
         (12, Reply::FetchMarked),
         (13, Reply::NoInstruction),
         (14, Reply::OperandMarked),
-        (15, Reply::DataOutside),
     ];
     for (number, reply) in table {
         assert_eq!(reply.number(), number);
@@ -180,20 +178,12 @@ fn assert_third_step_stops(reply: u32, change: impl FnOnce(&mut Rig)) {
 }
 
 #[test]
-fn replies_11_to_15_return_the_completed_steps_and_what_they_made() {
-    assert_third_step_stops(11, |rig| {
-        rig.memory.truncate(4);
-        rig.marks.truncate(4);
-    });
+fn replies_12_to_14_return_the_completed_steps_and_what_they_made() {
     assert_third_step_stops(12, |rig| rig.marks[4] = 1);
     assert_third_step_stops(13, |rig| rig.place(4, &[NOTHING]));
     assert_third_step_stops(14, |rig| {
         rig.place(4, &[0x1c05]); // jr r5
         rig.mark(5);
-    });
-    assert_third_step_stops(15, |rig| {
-        rig.place(4, &[0x8035]); // ldr r3 from r5
-        rig.set(5, LENGTH);
     });
 }
 
@@ -203,19 +193,6 @@ fn at_the_end(half: u16) -> Rig {
     rig.place(LENGTH - 2, &[half]);
     rig.state.pc = LENGTH - 2;
     rig
-}
-
-#[test]
-fn reply_11_fetch_outside_memory() {
-    for pc in [LENGTH, LENGTH + 2, 0x8000_0000, 0xffff_fffe] {
-        let mut rig = Rig::busy(&[]);
-        rig.state.pc = pc;
-        rig.assert_stops(11);
-    }
-    // The second half of a long jump.
-    for top in [0xe000, 0xe800, 0xf000, 0xf800] {
-        at_the_end(top).assert_stops(11);
-    }
 }
 
 #[test]
@@ -252,9 +229,10 @@ fn reply_13_bits_that_are_no_instruction() {
     }
 }
 
-/// "first half outside, first half marked, not an instruction, second half outside, ..."
+/// "first half outside, first half marked, not an instruction, second half outside, ..." Bus errors
+/// stand where stops 11 and 15 stood: "The order of the tests stays" (document 02, ticket 5).
 #[test]
-fn inside_one_instruction_the_stops_of_the_first_half_come_first() {
+fn inside_one_instruction_the_tests_of_the_first_half_come_first() {
     // First half marked before not an instruction.
     let mut rig = Rig::busy(&[NOTHING]);
     rig.marks[1] = 1;
@@ -272,11 +250,11 @@ fn inside_one_instruction_the_stops_of_the_first_half_come_first() {
 
 /// "... second half outside, second half marked, operand marked, data outside"
 #[test]
-fn inside_one_instruction_the_stops_of_operands_and_data_come_last() {
+fn inside_one_instruction_the_tests_of_operands_and_data_come_last() {
     for jump in [0xe000, 0xe800] {
         let mut outside = at_the_end(jump);
         outside.state.tf_marked = true;
-        outside.assert_stops(11);
+        outside.assert_bus_error(IBER, LENGTH - 2);
         let mut marked = Rig::busy(&[jump, 0]);
         marked.marks[3] = 1;
         marked.state.tf_marked = true;
@@ -285,7 +263,7 @@ fn inside_one_instruction_the_stops_of_operands_and_data_come_last() {
     for access in [0x8035, 0x9035, 0xa035, 0xb035, 0xc035, 0xd035] {
         let mut rig = Rig::busy(&[access]);
         rig.set(5, LENGTH);
-        rig.assert_stops(15);
+        rig.assert_bus_error(DBER, 2);
         rig.mark(5);
         rig.assert_stops(14);
     }
@@ -323,17 +301,12 @@ fn an_odd_program_counter_is_found_only_by_an_instruction() {
 #[test]
 fn a_stopping_step_does_not_let_the_timer_fall() {
     type Change = fn(&mut Rig);
-    let stops: [(u32, Change); 5] = [
-        (11, |rig| rig.state.pc = LENGTH),
+    let stops: [(u32, Change); 3] = [
         (12, |rig| rig.marks[0] = 1),
         (13, |rig| rig.place(0, &[NOTHING])),
         (14, |rig| {
             rig.place(0, &[0x9035]);
             rig.mark(5);
-        }),
-        (15, |rig| {
-            rig.place(0, &[0x9035]);
-            rig.set(5, LENGTH);
         }),
     ];
     for (reply, change) in stops {
@@ -345,7 +318,7 @@ fn a_stopping_step_does_not_let_the_timer_fall() {
     }
 }
 
-/// An entry fetches nothing, so it meets neither stop 11 nor stop 12 nor stop 13.
+/// An entry fetches nothing, so it meets neither a bus error nor stop 12 nor stop 13.
 #[test]
 fn an_entry_is_made_where_no_instruction_could_be_fetched() {
     let places: [fn(&mut Rig); 3] =

@@ -18,6 +18,10 @@ pub const BUSY_PSW: u32 = 0b1010_1011_1111_1010_1110_1100_1100_1111;
 /// The memory's length.
 pub const LENGTH: u32 = 128;
 
+/// The bits of PSW that show a bus error of data and of a fetch.
+pub const DBER: u32 = 14;
+pub const IBER: u32 = 15;
+
 impl Rig {
     /// Fresh, with memory that holds these halves from address 0 on.
     pub fn with(halves: &[u16]) -> Rig {
@@ -105,6 +109,19 @@ impl Rig {
     #[track_caller]
     pub fn assert_step(&self, change: impl FnOnce(&mut Rig)) -> Rig {
         self.assert_step_with(0, change)
+    }
+
+    /// One step with all lines low is a bus error that sets this bit of PSW and saves this address,
+    /// and nothing besides changes (document 02, ticket 5).
+    #[track_caller]
+    pub fn assert_bus_error(&self, bit: u32, ipc: u32) -> Rig {
+        self.assert_step(|after| {
+            let state = &mut after.state;
+            let ip = state.psw >> 3 & 1;
+            state.psw = state.psw & !(1 << 6) | ip << 6 | 1 << 3 | 1 << bit;
+            state.ipc = ipc;
+            state.pc = state.ibase / 256 * 256 + 16;
+        })
     }
 
     /// The first step stops with this reply and changes nothing.

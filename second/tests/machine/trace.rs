@@ -187,22 +187,35 @@ fn ldrpc_shows_the_aligned_address_of_the_sixteenth_line() {
 #[test]
 fn a_stopping_step_has_no_line() {
     let moved = ["00000000 - 0 0 00000000"];
-    // Bits that are no instruction; a load outside memory; a jump through a marked register.
+    // Bits that are no instruction; a jump through a marked register.
     assert_lines(Rig::with(&[MOVI, 0xfc00]), &[0; 3], 13, &moved);
-    let mut outside = Rig::with(&[MOVI, LDR]);
-    outside.set(5, LENGTH);
-    assert_lines(outside, &[0; 3], 15, &moved);
     let mut marked = Rig::with(&[MOVI, 0x1c05]);
     marked.mark(5);
     assert_lines(marked, &[0; 3], 14, &moved);
-    // A marked half; the end of memory.
+    // A marked half.
     let mut marked = Rig::with(&[MOVI, MOVI]);
     marked.marks[3] = 1;
     assert_lines(marked, &[0; 3], 12, &moved);
-    let mut end = Rig::with(&[]);
-    end.place(LENGTH - 2, &[MOVI]);
-    end.state.pc = LENGTH - 2;
-    assert_lines(end, &[0; 3], 11, &["0000007e - 0 0 00000000"]);
+}
+
+/// "the aligned data address, a data bus error's too" (document 02, ticket 9); a fetch has none.
+#[test]
+fn a_bus_error_shows_the_data_address_if_it_has_one() {
+    let mut data = Rig::with(&[MOVI, LDR]);
+    data.set(5, LENGTH + 3);
+    data.place(16, &[0xfc00]);
+    assert_lines(data, &[0; 3], 13, &["00000000 - 0 0 00000000", "00000002 b 0 1 00000080"]);
+    let mut fetch = Rig::with(&[]);
+    fetch.place(LENGTH - 2, &[MOVI]);
+    fetch.place(16, &[0xfc00]);
+    fetch.state.pc = LENGTH - 2;
+    assert_lines(fetch, &[0; 3], 13, &["0000007e - 0 0 00000000", "00000080 b 0 0 00000000"]);
+    // The second half of a long jump, and ldrpc.
+    let mut second = Rig::with(&[]);
+    second.place(LENGTH - 2, &[0xf000]);
+    second.state.pc = LENGTH - 2;
+    assert_line(second, 0, "0000007e b 0 0 00000000");
+    assert_line(Rig::with(&[0x4230]), 0, "00000000 b 0 1 00000080");
 }
 
 #[test]
@@ -263,8 +276,11 @@ fn the_nth_line_has_the_program_counter_after_n_minus_1_steps() {
 
 #[test]
 fn a_run_is_made_of_steps() {
-    let halves = [0x7457, LDR, 0x1003];
-    let (mut whole, mut stepped) = (Rig::busy(&halves), Rig::busy(&halves));
+    // The swint's handler, at 4, is no instruction.
+    let mut whole = Rig::busy(&[MOVI, MOVI, 0xfc00]);
+    whole.place(0x20, &[0x7457, LDR, 0x1003]);
+    (whole.state.pc, whole.state.ibase) = (0x20, 0);
+    let mut stepped = whole.clone();
     let (outcome, shown) = observe(&mut whole, &[0; 9]);
     let mut steps = Vec::new();
     let reply = loop {

@@ -45,7 +45,7 @@ fn every_case_has_its_answer() {
 #[test]
 fn every_outcome_is_shown() {
     let answers: Vec<String> = cases().into_iter().map(|(_, answer)| answer).collect();
-    let ends = [1, 10, 11, 12, 13, 14, 15].map(|reply| format!("end\t{reply}\t"));
+    let ends = [1, 10, 12, 13, 14].map(|reply| format!("end\t{reply}\t"));
     for start in ends.into_iter().chain(["bad\t".into()]) {
         assert!(answers.iter().any(|answer| answer.starts_with(&start)), "{start:?}");
     }

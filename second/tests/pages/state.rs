@@ -3,7 +3,7 @@
 use second::isa::Instr;
 use second::reply::Reply;
 use second::state::{hwdbg, psw, sfr, Register, State};
-use second::step::Entry;
+use second::step::{Access, Entry};
 
 use crate::markdown::{page, rows};
 use crate::rig::{instr, Rig};
@@ -79,8 +79,8 @@ fn psw_has_the_bits_of_the_page() {
         ("TF", psw::TF),
         ("CY", psw::CY),
         ("TR, TU", psw::TR),
-        ("DBER", psw::BUS_ERRORS & !(1 << 15)),
-        ("IBER", psw::BUS_ERRORS & !(1 << 14)),
+        ("DBER", psw::DBER),
+        ("IBER", psw::IBER),
         ("SWI", psw::SWI),
         ("EI5 to EI0", 0x3f << psw::ENABLE_SHIFT),
         ("ES5 to ES0", psw::STATUS),
@@ -151,11 +151,9 @@ fn the_replies_have_the_numbers_of_the_page() {
         Reply::TapeLength,
         Reply::TapeByte,
         Reply::BudgetUsed,
-        Reply::FetchOutside,
         Reply::FetchMarked,
         Reply::NoInstruction,
         Reply::OperandMarked,
-        Reply::DataOutside,
     ];
     let rows = rows(&page("MANIK.md"), ["No.", "Reply", "Tested"]);
     let expected = replies.map(|reply| (reply.number().to_string(), reply.is_refusal()));
@@ -177,7 +175,7 @@ fn put_last(rig: &mut Rig, half: u16) {
 }
 
 /// For each test inside an instruction a machine in which it holds, and a later one where it can.
-fn stopping() -> [Rig; 8] {
+fn hindered() -> [Rig; 8] {
     let (jf, ldr) = (instr("jf", [0; 3]), instr("ldr", [1, 0, 2]));
     let outside = Register { value: 128, marked: false };
     [
@@ -202,29 +200,38 @@ fn stopping() -> [Rig; 8] {
 }
 
 #[test]
-fn stops_are_tested_in_the_order_of_the_page() {
-    let rows = rows(&page("MANIK.md"), ["Order", "Test", "Reply"]);
+fn an_instruction_is_tested_in_the_order_of_the_page() {
+    let rows = rows(&page("MANIK.md"), ["Order", "Test", "Gives"]);
     assert_eq!(rows.len(), 8);
-    for (place, ([order, test, reply], mut rig)) in rows.iter().zip(stopping()).enumerate() {
-        let found = rig.step(0).expect_err("a stop").number();
-        assert_eq!((order, reply), (&(place + 1).to_string(), &found.to_string()), "{test}");
+    for (place, ([order, test, gives], mut rig)) in rows.iter().zip(hindered()).enumerate() {
+        let found = match rig.step(0).map(|step| step.entry) {
+            Err(reply) => reply.number().to_string(),
+            Ok(Some(Entry::BusError(Access::Fetch))) => "bus error, fetch".into(),
+            Ok(Some(Entry::BusError(Access::Data))) => "bus error, data".into(),
+            Ok(other) => panic!("{test}: {other:?}"),
+        };
+        assert_eq!((order, gives), (&(place + 1).to_string(), &found), "{test}");
     }
 }
 
 /// The entries of the page in its order, each made by a step of a machine.
-fn entering() -> [(&'static str, Entry, Rig, u8); 5] {
-    let mov = instr("mov", [0; 3]);
+fn entering() -> [(&'static str, Entry, Rig, u8); 7] {
+    let (mov, ldr) = (instr("mov", [0; 3]), instr("ldr", [1, 0, 2]));
     let swint = Rig::with(instr("swint", [3, 0, 0]));
     let breakpoint = changed(mov, |rig| rig.state.hwdbg |= hwdbg::BP0);
-    let watchpoint = changed(instr("ldr", [1, 0, 2]), |rig| rig.state.hwdbg |= hwdbg::WP1);
+    let watchpoint = changed(ldr, |rig| rig.state.hwdbg |= hwdbg::WP1);
     let timer = changed(mov, |rig| (rig.state.psw, rig.state.pending) = (psw::IE | psw::TE, true));
     let external = changed(mov, |rig| rig.state.psw = psw::IE | 1 << psw::ENABLE_SHIFT);
+    let fetch = changed(mov, |rig| rig.state.pc = 128);
+    let data = changed(ldr, |rig| rig.state.registers[2].value = 128);
     [
         ("swint", Entry::Swint(3), swint, 0),
         ("debug, breakpoint", Entry::Debug(hwdbg::BP_HIT), breakpoint, 0),
         ("debug, watchpoint", Entry::Debug(hwdbg::WP1_HIT), watchpoint, 0),
         ("timer", Entry::Timer, timer, 0),
         ("external", Entry::External(0), external, 1),
+        ("bus error, fetch", Entry::BusError(Access::Fetch), fetch, 0),
+        ("bus error, data", Entry::BusError(Access::Data), data, 0),
     ]
 }
 
@@ -232,14 +239,15 @@ fn entering() -> [(&'static str, Entry, Rig, u8); 5] {
 fn entries_go_where_the_page_says() {
     let columns = ["Entry", "Low 8 bits of pc", "IPC becomes", "Besides"];
     let rows = rows(&page("MANIK.md"), columns);
-    assert_eq!(rows.len(), 5);
+    assert_eq!(rows.len(), 7);
     for ([name, low, ipc, _], entering) in rows.iter().zip(entering()) {
         let (expected, entry, mut rig, lines) = entering;
         assert_eq!(name, expected);
+        let own = rig.state.pc;
         rig.state.ibase = 0x5a5a_5aff;
         assert_eq!(rig.step(lines).expect("an entry").entry, Some(entry), "{name}");
         assert_eq!(rig.state.pc - 0x5a5a_5a00, low.parse().expect("a number"), "{name}");
-        let after = if ipc.starts_with("the address after") { 2 } else { 0 };
+        let after = if ipc.starts_with("the address after") { own + 2 } else { own };
         assert_eq!(rig.state.ipc, after, "{name}");
     }
 }

@@ -1,6 +1,7 @@
 //! The repository's files as the stories read them.
 
-use std::fs;
+use std::fs::{self, DirEntry};
+use std::io;
 use std::ops::Range;
 use std::path::{Path, PathBuf};
 
@@ -27,6 +28,16 @@ pub fn image(name: &str) -> Vec<u8> {
 /// The bytes of a file of the repository.
 pub fn bytes(place: &str) -> Vec<u8> {
     fs::read(root().join(place)).unwrap_or_else(|error| panic!("{place}: {error}"))
+}
+
+/// The names of a folder's files, in order.
+pub fn files(folder: &str) -> Vec<String> {
+    let entries =
+        fs::read_dir(root().join(folder)).unwrap_or_else(|error| panic!("{folder}: {error}"));
+    let name = |entry: io::Result<DirEntry>| entry.expect("an entry").file_name().into_string();
+    let mut names: Vec<String> = entries.map(|entry| name(entry).expect("plain text")).collect();
+    names.sort();
+    names
 }
 
 /// The answer's values on the lines with these names; of a register that isn't written, eight zeros.

@@ -1,6 +1,7 @@
 //! The examples that pages of `docs/` tell, and what these pages say of them.
 
 mod build31;
+mod bus_errors;
 mod files;
 mod nested;
 mod sources;

@@ -11,9 +11,6 @@ enum-known-r c = search needs
 enum-known-r-2 : tie.Need-enum-known-r-2
 enum-known-r-2 c = search needs
 
-enum-known-r-3 : tie.Need-enum-known-r-3
-enum-known-r-3 c = search needs
-
 enum-told-2 : tie.Need-enum-told-2
 enum-told-2 c = search needs
 
@@ -27,10 +24,7 @@ returns-3 : tie.Need-returns-3
 returns-3 c = rw (c .before .r2 .given .1)
 
 returns-4 : tie.Need-returns-4
-returns-4 c = rw (c .before .r3 .given .1)
-
-returns-5 : tie.Need-returns-5
-returns-5 c = search needs
+returns-4 c = search needs
 
 pub data-of-spec : {M : Type 1} → statement M
 data-of-spec =
@@ -39,10 +33,8 @@ data-of-spec =
     enum-told
     enum-known-r
     enum-known-r-2
-    enum-known-r-3
     enum-told-2
     returns
     returns-2
     returns-3
-    returns-4
-    returns-5)
+    returns-4)

@@ -7,8 +7,8 @@ use second::word::sign_extend;
 use crate::random::Random;
 
 /// Where the parts of a firmware lie; its IBASE is 0.
-pub const SUBROUTINE: u32 = 0x40;
-pub const LOOP: u32 = 0x60;
+pub const SUBROUTINE: u32 = 0x50;
+pub const LOOP: u32 = 0x70;
 pub const DATA: usize = 0x100;
 
 /// The registers of a firmware: those below are free, r8 to r13 are bases of data.
@@ -16,13 +16,15 @@ pub const BASES: std::ops::Range<usize> = 8..14;
 pub const SUBROUTINE_BASE: usize = 14;
 pub const LOOP_BASE: usize = 15;
 
-/// The entries of a firmware, and where their handlers begin.
-const HANDLERS: [(u32, u32); 3] = [(4, 0x10), (8, 0x20), (12, 0x30)];
+/// The entries of a firmware, and where their handlers begin; the last is that of bus errors.
+const HANDLERS: [(u32, u32); 4] = [(4, 0x14), (8, 0x22), (12, 0x30), (BUS_ERROR, 0x3e)];
+const BUS_ERROR: u32 = 16;
 
 /// What the parts of a firmware may do.
 #[derive(Clone, Copy, PartialEq)]
 enum Part {
     Handler,
+    BusError,
     Subroutine,
     Loop,
 }
@@ -71,7 +73,8 @@ impl Code {
         let from_entry = Instr::Jsfr { sfr: sfr::IPC };
         for (entry, handler) in HANDLERS {
             place(&mut memory, entry, &[long_jump(When::Always, (handler - entry) / 2)]);
-            self.part(random, Part::Handler, &mut memory, handler, 14, from_entry);
+            let part = if entry == BUS_ERROR { Part::BusError } else { Part::Handler };
+            self.part(random, part, &mut memory, handler, 14, from_entry);
         }
         let to_caller = Instr::Jsfr { sfr: sfr::RA };
         self.part(random, Part::Subroutine, &mut memory, SUBROUTINE, 32, to_caller);
@@ -98,6 +101,12 @@ impl Code {
         if part == Part::Handler && random.once_in(2) {
             let simm8 = 1 + random.below(20);
             code.extend([Instr::Movi { rd: 7, simm8 }, Instr::Mtsfr { sfr: sfr::TIMER, rb: 7 }]);
+            left -= 4;
+        }
+        // After a fetch IPC is outside memory, so the handler goes to the caller instead.
+        if part == Part::BusError && random.once_in(2) {
+            let to_caller = Instr::Mtsfr { sfr: sfr::IPC, rb: 7 };
+            code.extend([Instr::Mfsfr { rd: 7, sfr: sfr::RA }, to_caller]);
             left -= 4;
         }
         while left > 0 {
@@ -141,7 +150,7 @@ impl Code {
             Instr::Mtsfr { .. } => {
                 let sfr = match part {
                     Part::Loop => random.pick(&[0, 1, 2, 3, 3, 5, 6, 7, 8, 9, 10]),
-                    Part::Handler | Part::Subroutine => random.pick(&[3, 5, 9, 10]),
+                    _ => random.pick(&[3, 5, 9, 10]),
                 };
                 vec![Instr::Mtsfr { sfr, rb: random.below(8) }]
             }

@@ -45,6 +45,10 @@ pub fn firmware(random: &mut Random, length: u32) -> State {
         let address = DATA as u32 + random.below(length - DATA as u32 - 60);
         *register = Register { value: address, marked: false };
     }
+    if random.once_in(4) {
+        let base = random.pick(&[BASES.start, BASES.start + 1]);
+        state.registers[base].value = length - random.pick(&[0, 4, 16, 40]);
+    }
     state.registers[SUBROUTINE_BASE] = Register { value: SUBROUTINE, marked: false };
     state.registers[LOOP_BASE] = Register { value: LOOP | random.below(2), marked: false };
     state.pc = LOOP;

@@ -17,15 +17,17 @@ const SEED: u64 = 0x4d41_4e49_4b04;
 /// Of the cases with more bytes than this only one in five is kept, so that the file stays small.
 const SHORT: usize = 2_000;
 
-/// The sources of `examples/`: build 31, build 32 and the leak, in this order.
-const EXAMPLES: [&str; 3] = [
+/// The sources of `examples/`: build 31, build 32 and the leak, then those of later tickets.
+const EXAMPLES: [&str; 5] = [
     include_str!("../../../../examples/build31.s"),
     include_str!("../../../../examples/build32.s"),
     include_str!("../../../../examples/leak.s"),
+    include_str!("../../../../examples/buserror.s"),
+    include_str!("../../../../examples/buserror_lost.s"),
 ];
 
-/// The length of their memory.
-const EXAMPLE_MEMORY: usize = 256;
+/// The length of an image that takes each of them.
+const EXAMPLE_IMAGE: usize = 256;
 
 impl AssemblyCase {
     /// The bytes of the case.
@@ -56,7 +58,7 @@ impl AssemblyCase {
 }
 
 fn example(source: &str) -> AssemblyCase {
-    AssemblyCase { text: source.into(), start: 0, image: vec![0; EXAMPLE_MEMORY] }
+    AssemblyCase { text: source.into(), start: 0, image: vec![0; EXAMPLE_IMAGE] }
 }
 
 /// Every stored case: the examples first, then the edges.

@@ -3,13 +3,14 @@
 use crate::corpus::build::{edge, LENGTH};
 use crate::corpus::Case;
 use crate::state::{hwdbg, psw};
+use crate::step::Access;
 
 pub fn cases() -> Vec<Case> {
     [data(), alignment(), ldrpc(), code(), longest()].concat()
 }
 
 /// The mnemonics of the loads and stores, and their sizes.
-const ACCESSES: [(&str, u32); 6] =
+pub(super) const ACCESSES: [(&str, u32); 6] =
     [("ldr", 4), ("ldrh", 2), ("ldrb", 1), ("str", 4), ("strh", 2), ("strb", 1)];
 
 /// Each access at the last place, and at the address equal to the length.
@@ -21,10 +22,11 @@ fn data() -> Vec<Case> {
         };
         cases.push(access("at the last place of memory", LENGTH - size));
         cases.push(access("at the last address, aligned down", LENGTH - 1));
-        cases.push(access("at the address equal to the length", LENGTH).gives(15, 0));
-        cases.push(access("at 65,536", 65_536).gives(15, 0));
-        cases.push(access("at 2^31", 0x8000_0000).gives(15, 0));
-        cases.push(access("at 2^32 - 1", u32::MAX).gives(15, 0));
+        let outside = |what: &str, base| access(what, base).bus_error(Access::Data);
+        cases.push(outside("at the address equal to the length", LENGTH));
+        cases.push(outside("at 65,536", 65_536));
+        cases.push(outside("at 2^31", 0x8000_0000));
+        cases.push(outside("at 2^32 - 1", u32::MAX));
     }
     cases
 }
@@ -41,7 +43,8 @@ fn alignment() -> Vec<Case> {
         cases.push(units("aligns after the sum of 15 units", 15, 3));
         cases.push(units("wraps at 2^32", 3, 0u32.wrapping_sub(2 * size)));
         cases.push(units("wraps at 2^32 and aligns", 3, 0u32.wrapping_sub(2 * size + 1)));
-        cases.push(units("reaches the length by its offset", 15, LENGTH - 15 * size).gives(15, 0));
+        let outside = units("reaches the length by its offset", 15, LENGTH - 15 * size);
+        cases.push(outside.bus_error(Access::Data));
     }
     cases.push(edge("ldr into its own base", &[("ldr", &[5, 0, 5])]).register(5, 0x20));
     cases.push(edge("str of its own base", &[("str", &[5, 0, 5])]).register(5, 0x20));
@@ -63,8 +66,8 @@ fn ldrpc() -> Vec<Case> {
         at("ldrpc of itself", 10, 0),
         at("ldrpc of the last word", 0, 15),
         at("ldrpc of the last word from an unaligned place", 2, 15),
-        at("ldrpc at the address equal to the length", 0, 16).gives(15, 0),
-        at("ldrpc of the longest offset", 0, 255).gives(15, 0),
+        at("ldrpc at the address equal to the length", 0, 16).bus_error(Access::Data),
+        at("ldrpc of the longest offset", 0, 255).bus_error(Access::Data),
     ]
 }
 
@@ -74,7 +77,7 @@ fn code() -> Vec<Case> {
         |name: &str| edge(name, &[]).at(LENGTH - 2, &[("movi", &[1, 16])]).pc(LENGTH - 2).steps(2);
     vec![
         at_the_end("a movi at the end completes").steps(1),
-        at_the_end("a movi at the end, then the next step").gives(11, 1),
+        at_the_end("a movi at the end, then the next step").bus_error(Access::Fetch),
         at_the_end("a movi at the end, then an external entry")
             .psw(psw::IE | 1 << psw::ENABLE_SHIFT)
             .lines(&[0, 1]),
@@ -102,7 +105,7 @@ fn longest() -> Vec<Case> {
             .pc(length - 2)
     };
     vec![
-        end("the last two bytes of 4", 4).steps(2).gives(11, 1),
+        end("the last two bytes of 4", 4).steps(2).bus_error(Access::Fetch),
         end("the last two bytes of 65,536", 65_536)
             .at(0, &[("jl", &[32_762])])
             .at(65_524, &[("str", &[3, 2, 6]), ("ldrb", &[7, 0, 5]), ("jrl", &[8])])
@@ -110,7 +113,7 @@ fn longest() -> Vec<Case> {
             .register(6, 65_471)
             .register(8, 65_531)
             .pc(0)
-            .steps(9)
-            .gives(11, 7),
+            .steps(8)
+            .bus_error(Access::Fetch),
     ]
 }

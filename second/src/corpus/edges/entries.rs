@@ -3,6 +3,7 @@
 use crate::corpus::build::{edge, BUSY_PSW, LENGTH};
 use crate::corpus::Case;
 use crate::state::{hwdbg, psw, State};
+use crate::step::Access;
 
 pub fn cases() -> Vec<Case> {
     [
@@ -212,7 +213,7 @@ fn no_watch() -> Vec<Case> {
         )),
         ldr("a load outside under a watchpoint", LENGTH)
             .state(watched(LENGTH, 0, both))
-            .gives(15, 0),
+            .bus_error(Access::Data),
         ldr("a marked base under a watchpoint", 0)
             .marked(5, 0x20)
             .state(watched(0x20, 0, both))
@@ -238,7 +239,7 @@ fn swint() -> Vec<Case> {
         swint("swint to an IBASE outside memory", 7)
             .steps(2)
             .state(|state| state.ibase = 0x100)
-            .gives(11, 1),
+            .bus_error(Access::Fetch),
         swint("swint with a high IBASE", 1).state(|state| state.ibase = 0x8000_01ff),
         swint("swint's bits 7:4 are zero", 1).bytes_at(0, &[0x10, 0x11]).gives(13, 0),
         swint("swint with marked flags", 1)

@@ -3,6 +3,7 @@
 use crate::corpus::build::edge;
 use crate::corpus::Case;
 use crate::state::psw;
+use crate::step::Access;
 
 pub fn cases() -> Vec<Case> {
     [relative(), extremes(), wraps(), register(), marked()].concat()
@@ -44,7 +45,7 @@ fn wraps() -> Vec<Case> {
     let jump = |name: &str, line| edge(name, &[line]).psw(psw::TF);
     vec![
         jump("sj below address 0", ("sj", &[-1])),
-        jump("sj below address 0, then the fetch", ("sj", &[-1])).steps(2).gives(11, 1),
+        jump("sj below address 0, then the fetch", ("sj", &[-1])).steps(2).bus_error(Access::Fetch),
         jump("j below address 0", ("j", &[-1])),
         jump("0xf3ffffff is j, -2", ("j", &[-1])).bytes_at(0, &[0xf3, 0xff, 0xff, 0xff]),
         jump("sjt below address 0", ("sjt", &[-512])),
@@ -68,7 +69,7 @@ fn register() -> Vec<Case> {
             jump("to an even address", name, 0x20),
             jump("to an odd address", name, 0x21),
             jump("to the highest address", name, u32::MAX),
-            jump("outside, then the fetch", name, 0x40).steps(2).gives(11, 1),
+            jump("outside, then the fetch", name, 0x40).steps(2).bus_error(Access::Fetch),
             jump("to a marked register", name, 0).marked(5, 0x20).gives(14, 0),
             jump("to a marked register outside", name, 0).marked(5, 0x8000_0000).gives(14, 0),
             jump("with marked flags", name, 0x20)

@@ -3,6 +3,7 @@
 use crate::corpus::build::{edge, LENGTH};
 use crate::corpus::Case;
 use crate::state::{psw, State};
+use crate::step::Access;
 
 pub fn cases() -> Vec<Case> {
     [conditionals(), stores(), loads(), results(), flags(), bases()].concat()
@@ -128,7 +129,7 @@ fn flags() -> Vec<Case> {
     cases
 }
 
-/// "a marked base together with an address outside": 14 before 15.
+/// "a marked base still stops first" (document 02, ticket 5).
 fn bases() -> Vec<Case> {
     let mut cases = Vec::new();
     for name in ["ldr", "ldrh", "ldrb", "str", "strh", "strb"] {
@@ -138,7 +139,7 @@ fn bases() -> Vec<Case> {
             cases.push(case.marked(5, base).gives(14, 0));
         }
         let case = edge(format!("{name} of a marked Rd outside"), &[(name, &[3, 0, 5])]);
-        cases.push(case.marked(3, 7).register(5, LENGTH).gives(15, 0));
+        cases.push(case.marked(3, 7).register(5, LENGTH).bus_error(Access::Data));
     }
     cases
 }

@@ -3,6 +3,7 @@
 use crate::corpus::build::{assemble, edge, LENGTH};
 use crate::corpus::Case;
 use crate::state::psw;
+use crate::step::Access;
 
 pub fn cases() -> Vec<Case> {
     [lengths(), marks(), forms(), tapes(), pairs(), budgets(), stops(), stop_order()].concat()
@@ -131,7 +132,6 @@ fn budgets() -> Vec<Case> {
 
 /// Each stop by itself, after 0 and after 2 steps.
 fn stops() -> Vec<Case> {
-    let last = LENGTH - 2;
     let mut cases = Vec::new();
     for at in [0, 4] {
         let steps = u64::from(at) / 2;
@@ -146,28 +146,13 @@ fn stops() -> Vec<Case> {
                 .at(at, &[("sjt", &[8])])
                 .state(|state| state.tf_marked = true)
                 .gives(14, steps),
-            case("a load outside").at(at, &[("ldr", &[3, 0, 5])]).register(5, 64).gives(15, steps),
-            case("a store outside")
-                .at(at, &[("strb", &[3, 0, 5])])
-                .register(5, 64)
-                .gives(15, steps),
         ]);
     }
-    cases.extend([
-        movi("a fetch at the length").pc(LENGTH).gives(11, 0),
-        movi("a fetch at 2^32 - 2").pc(0xffff_fffe).gives(11, 0),
-        movi("a fetch at 2^31").pc(1 << 31).gives(11, 0),
-        movi("a fetch at 65,536").pc(65_536).gives(11, 0),
-        movi("a mark behind a short instruction").mark(2),
-    ]);
-    for name in ["jf", "jt", "j", "jl"] {
-        let case = movi(format!("the second half of {name} outside")).pc(last);
-        cases.push(case.bytes_at(last, &assemble(&[(name, &[-4])])[..2]).gives(11, 0));
-    }
+    cases.push(movi("a mark behind a short instruction").mark(2));
     cases
 }
 
-/// Two stops at once: the earlier one of document 01's order is given.
+/// Two stops at once, or a stop and a bus error: the earlier one of document 01's order is given.
 fn stop_order() -> Vec<Case> {
     let last = LENGTH - 2;
     let none = |name: &str, at| movi(name).bytes_at(at, &[0xff, 0xff]).pc(at);
@@ -182,12 +167,15 @@ fn stop_order() -> Vec<Case> {
         none("no instruction before second half marked", 0).mark(2).gives(13, 0),
         jt("first half marked before second half outside", last).mark(last + 1).gives(12, 0),
         jt("first half marked before an operand marked", 0).mark(1).gives(12, 0),
-        jt("second half outside before an operand marked", last).gives(11, 0),
+        jt("second half outside before an operand marked", last).bus_error(Access::Fetch),
         jt("second half marked before an operand marked", 0).mark(2).gives(12, 0),
         jt("an operand marked and nothing before it", 0).gives(14, 0),
         ldr("first half marked before data outside").register(5, 64).mark(0).gives(12, 0),
         ldr("an operand marked before data outside").marked(5, 64).gives(14, 0),
-        ldr("data outside with Rd marked").marked(3, 0).register(5, 64).gives(15, 0),
-        ldr("first half outside with everything else").pc(LENGTH).marked(5, 64).gives(11, 0),
+        ldr("data outside with Rd marked").marked(3, 0).register(5, 64).bus_error(Access::Data),
+        ldr("first half outside with everything else")
+            .pc(LENGTH)
+            .marked(5, 64)
+            .bus_error(Access::Fetch),
     ]
 }

@@ -30,7 +30,8 @@ fn moves() -> Vec<Case> {
     cases
 }
 
-/// "mtsfr psw keeps bits 12, 14, 15 and 26 to 31. mtsfr hwdbg writes bits 2 to 5 only."
+/// "mtsfr psw keeps bits 12 ... and 26 to 31", and "may now write bits 14 and 15" (document 02,
+/// ticket 5). "mtsfr hwdbg writes bits 2 to 5 only."
 fn kept_bits() -> Vec<Case> {
     let psw_write = |name: &str, psw: u32, value: u32| {
         edge(name, &[("mtsfr", &[0, 3])]).psw(psw).register(3, value)
@@ -43,6 +44,10 @@ fn kept_bits() -> Vec<Case> {
         psw_write("mtsfr psw of ones onto zeros", 0, u32::MAX),
         psw_write("mtsfr psw of zeros onto ones", !psw::TR, 0),
         psw_write("mtsfr psw of TR alone", 0, psw::TR),
+        psw_write("mtsfr psw of DBER alone", 0, psw::DBER),
+        psw_write("mtsfr psw of IBER alone", 0, psw::IBER),
+        psw_write("mtsfr psw clears DBER alone", psw::DBER | psw::IBER, psw::IBER),
+        psw_write("mtsfr psw clears IBER alone", psw::DBER | psw::IBER, psw::DBER),
         psw_write("mtsfr psw unmarks TF and CY", BUSY_PSW, psw::TF).state(flags),
         psw_write("mtsfr psw of a marked register leaves marks", BUSY_PSW, 0)
             .state(flags)

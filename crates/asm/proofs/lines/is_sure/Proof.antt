@@ -3,7 +3,7 @@ use Rattle.asm.proofs.lines.is_sure.Statement.{statement}
 use Rattle.asm.proofs.lines.is_sure.Tie as tie
 
 returns : tie.Need-returns
-returns c = search needs
+returns c = rw (c .if1 .taken)
 
 is-known-as-requires : tie.Need-is-known-as-requires
 is-known-as-requires c κs = search needs

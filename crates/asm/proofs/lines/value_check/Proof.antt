@@ -1,7 +1,7 @@
 use mathlib.Core.Path.{ap, _∙_}
 use mir.Syntax.{w32}
 use mir.ValLaws.{toZ-ofZ}
-use Rattle.asm.specs.Assemble.{lineBits, valueCheck}
+use Rattle.asm.specs.Parts.{bitsBy, checkBy}
 use borrow.Author.Needs.{needs}
 use Rattle.asm.proofs.lines.value_check.Statement.{statement}
 use Rattle.asm.proofs.lines.value_check.Tie as tie
@@ -37,21 +37,21 @@ enum-told-3 : tie.Need-enum-told-3
 enum-told-3 c = search needs
 
 returns : tie.Need-returns
-unfolding valueCheck
+unfolding checkBy
 returns c =
-    let e = c .before .before .before .line-bits .ensures ∙ ap (lineBits (c .before .before .before .before .before .before .before .before .before .before .before .args .w) (c .before .before .before .before .before .before .before .before .before .before .before .args .at) (c .before .before .before .before .before .before .before .before .before .before .before .args .b .now)) (toZ-ofZ w32 (c .before .before .before .before .before .v .given .0 .0) (record { sfits = c .before .before .before .before .known-told2 .given .0 .1 })) in
+    let e = c .before .before .before .line-bits .ensures ∙ ap (bitsBy (c .before .before .before .before .before .before .before .before .before .before .before .before .before .args .w) (c .before .before .before .before .before .before .before .before .before .before .before .before .before .args .s) (c .before .before .before .before .before .before .before .before .before .before .before .before .before .args .at) (c .before .before .before .before .before .before .before .before .before .before .before .before .before .args .x .now) (c .before .before .before .before .before .before .before .before .before .before .before .before .before .args .y .now) (c .before .before .before .before .before .before .before .before .before .before .before .before .before .args .z .now)) (toZ-ofZ w32 (c .before .before .before .before .before .v .given .0 .0) (record { sfits = c .before .before .before .before .known-told2 .given .0 .1 })) in
     rw (c .before .before .before .before .before .before .before .before .r .given .1, c .before .before .before .before .before .v .given .1, ← e, ← (c .before .before .fit-check .ensures), ← (c .before .first-of .ensures), ← (c .first-of2 .ensures))
 
 returns-2 : tie.Need-returns-2
-unfolding valueCheck
+unfolding checkBy
 returns-2 c = rw (c .before .before .before .before .r .given .1, c .before .enum-told .given .1, ← (c .first-of3 .ensures))
 
 returns-3 : tie.Need-returns-3
-unfolding valueCheck
+unfolding checkBy
 returns-3 c = rw (c .before .before .before .r .given .1, c .enum-told2 .given .1)
 
 returns-4 : tie.Need-returns-4
-unfolding valueCheck
+unfolding checkBy
 returns-4 c = rw (c .enum-told3 .given .1)
 
 pub value-check-spec : {M : Type 1} → statement M

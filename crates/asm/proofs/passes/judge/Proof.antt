@@ -1,19 +1,20 @@
-use Rattle.asm.specs.Parts.{allKnown, checkSure}
-use mathlib.Core.Bool.{true}
 use Prim.Native.Nat.{_+_, _-_, _^_, _<_, _≤_}
-use mathlib.Core.Path.{_≡_, refl, sym, ap, ap₂, _∙_}
+use mathlib.Core.Path.{_≡_, refl, sym, ap₂, _∙_}
+use mathlib.Core.Bool.{true}
 use mathlib.Core.List.{[]}
 use native.Mathlib.Numerals.{add-one}
 use native.Mathlib.Omega.{arith}
 use lib.ListN.{length, take, drop}
 use lib.Seq.{length-take-le}
 use borrow.Author.Needs.{needs}
-use Rattle.expr.specs.Expr.{labels}
-use Rattle.forms.specs.Form.{linesOf, whatOf}
-use Rattle.asm.specs.declared.Checked.{Checked}
-use Rattle.asm.specs.Assemble.{verdictOf}
 use Rattle.word.specs.declared.ByteAddr.{ByteAddr}
-use Rattle.forms.proofs.Laws.{line-there}
+use Rattle.expr.specs.Expr.{labels}
+use Rattle.forms.specs.Form.{linesOf}
+use Rattle.forms.specs.Parts.{firstLine}
+use Rattle.forms.proofs.Cuts.{line-next}
+use Rattle.asm.specs.declared.Checked.{Checked}
+use Rattle.asm.specs.Parts.{allKnown, checkSure}
+use Rattle.asm.specs.Assemble.{verdictOf}
 use Rattle.asm.proofs.Laws.{fine-room, verdict-on, verdict-stops, verdict-end, first-known, rest-known, sure-check}
 use Rattle.asm.proofs.passes.judge.Statement.{statement}
 use Rattle.asm.proofs.passes.judge.Tie as tie
@@ -30,20 +31,23 @@ abbrev μ-loop : tie.MeasureT-loop
 loop-holds : tie.Need-loop-holds Inv-loop μ-loop
 loop-holds c = (omega arith, omega arith, c .before .before .before .before .pre .1, c .before .before .before .before .pre .2, omega arith, refl, search needs, c .before .before .before .before .pre .3)
 
-line-at-requires : tie.Need-line-at-requires Inv-loop μ-loop
-line-at-requires c κs = search needs
+end-part-requires : tie.Need-end-part-requires Inv-loop μ-loop
+end-part-requires c κs = search needs
 
-body-requires : tie.Need-body-requires Inv-loop μ-loop
-body-requires c κs = search needs
+cut-line-requires : tie.Need-cut-line-requires Inv-loop μ-loop
+cut-line-requires c κs = search needs
 
-what-of-requires : tie.Need-what-of-requires Inv-loop μ-loop
-what-of-requires c κs = search needs
+what-in-requires : tie.Need-what-in-requires Inv-loop μ-loop
+what-in-requires c κs = search needs
 
 bytes-for-requires : tie.Need-bytes-for-requires Inv-loop μ-loop
 bytes-for-requires c κs = search needs
 
 room-check-requires : tie.Need-room-check-requires Inv-loop μ-loop
 room-check-requires c κs = search needs
+
+address-of-requires : tie.Need-address-of-requires Inv-loop μ-loop
+address-of-requires c κs = search needs
 
 slice-reshare-prefix-line-check : tie.Need-slice-reshare-prefix-line-check Inv-loop μ-loop
 slice-reshare-prefix-line-check c =
@@ -56,9 +60,6 @@ slice-aggregate-line-check c =
     let i = c .before .before .before .before .before .before .before .before .loop .inv .1 in
     let j = c .before .before .before .before .before .before .before .before .loop .inv .2 in
     sym (length-take-le (c .before .before .before .before .before .before .before .before .loop .count) (c .before .before .before .before .before .before .before .before .loop .seen) (omega arith))
-
-address-of-requires : tie.Need-address-of-requires Inv-loop μ-loop
-address-of-requires c κs = search needs
 
 line-check-requires : tie.Need-line-check-requires Inv-loop μ-loop
 line-check-requires c κs = search needs
@@ -77,7 +78,8 @@ cast-to c = search needs
 
 add-to : tie.Need-add-to Inv-loop μ-loop
 add-to c =
-    let h = fine-room _ _ _ _ _ _ _ _ (sym (c .before .before .before .before .before .before .before .line-check .ensures ∙ ap₂ (λ (x : ByteAddr) (y : Checked). checkSure (c .before .before .before .before .before .before .before .before .before .before .before .before .before .before .before .before .before .before .before .before .before .args .sure) (labels (c .before .before .before .before .before .before .before .before .before .before .before .before .before .before .before .before .before .before .before .before .before .args .keys .now) (c .before .before .before .before .before .before .before .before .before .before .before .before .before .before .before .before .before .before .before .before .before .args .places .now)) (take (c .before .before .before .before .before .before .before .before .before .before .before .before .before .before .before .before .loop .count) (c .before .before .before .before .before .before .before .before .before .before .before .before .before .before .before .before .loop .seen)) x y (c .before .before .before .before .before .before .before .before .before .before .before .before .what-of .result) (c .before .before .before .before .before .before .before .before .before .before .before .before .before .before .line-at .result .now)) (c .before .before .before .before .before .before .before .before .before .address-of .ensures) (c .before .before .before .before .before .before .before .before .before .before .room-check .ensures) ∙ sure-check (c .before .before .before .before .before .before .before .before .before .before .before .before .before .before .before .before .before .before .before .before .before .args .sure) (labels (c .before .before .before .before .before .before .before .before .before .before .before .before .before .before .before .before .before .before .before .before .before .args .keys .now) (c .before .before .before .before .before .before .before .before .before .before .before .before .before .before .before .before .before .before .before .before .before .args .places .now)) (take (c .before .before .before .before .before .before .before .before .before .before .before .before .before .before .before .before .loop .count) (c .before .before .before .before .before .before .before .before .before .before .before .before .before .before .before .before .loop .seen)) _ _ (c .before .before .before .before .before .before .before .before .before .before .before .before .what-of .result) (c .before .before .before .before .before .before .before .before .before .before .before .before .before .before .line-at .result .now) (λ e. first-known _ _ (c .before .before .before .before .before .before .before .before .before .before .before .before .before .before .line-at .result .now) (c .before .before .before .before .before .before .before .before .before .before .before .before .what-of .result) (line-there (c .before .before .before .before .before .before .before .before .before .before .before .before .before .before .before .before .before .before .before .before .before .args .text .now) (c .before .before .before .before .before .before .before .before .before .before .before .before .before .before .line-at .result .now) (c .before .before .before .before .before .before .before .before .before .before .before .before .before .before .before .before .loop .at) (c .before .before .before .before .before .before .before .before .before .before .before .before .before .before .before .loop-test .taken) (c .before .before .before .before .before .before .before .before .before .before .before .before .before .before .line-at .ensures) .lines) (c .before .before .before .before .before .before .before .before .before .before .before .before .what-of .ensures ∙ ap whatOf (c .before .before .before .before .before .before .before .before .before .before .before .before .before .body .ensures)) (c .before .before .before .before .before .before .before .before .before .before .before .before .before .before .before .before .loop .inv .7 e))) ∙ c .before .before .before .before .before .enum-told .given .1) in
+    let g = line-next (c .before .before .before .before .before .before .before .before .before .before .before .before .before .before .before .before .before .before .before .before .before .args .text .now) (c .before .before .before .before .before .before .before .before .before .before .before .before .before .before .end-part .result .now) (c .before .before .before .before .before .before .before .before .before .before .before .before .before .before .before .before .loop .at) (c .before .before .before .before .before .before .before .before .before .before .before .before .before .cut-line .result) (c .before .before .before .before .before .before .before .before .before .before .before .before .before .before .before .loop-test .taken) (c .before .before .before .before .before .before .before .before .before .before .before .before .before .before .end-part .ensures) (c .before .before .before .before .before .before .before .before .before .before .before .before .before .cut-line .ensures) in
+    let h = fine-room _ _ _ _ _ _ _ _ (sym (c .before .before .before .before .before .before .before .line-check .ensures ∙ ap₂ (λ (x : ByteAddr) (y : Checked). checkSure (c .before .before .before .before .before .before .before .before .before .before .before .before .before .before .before .before .before .before .before .before .before .args .sure) (labels (c .before .before .before .before .before .before .before .before .before .before .before .before .before .before .before .before .before .before .before .before .before .args .keys .now) (c .before .before .before .before .before .before .before .before .before .before .before .before .before .before .before .before .before .before .before .before .before .args .places .now)) (take (c .before .before .before .before .before .before .before .before .before .before .before .before .before .before .before .before .loop .count) (c .before .before .before .before .before .before .before .before .before .before .before .before .before .before .before .before .loop .seen)) x y (c .before .before .before .before .before .before .before .before .before .before .before .before .what-in .result) (firstLine (c .before .before .before .before .before .before .before .before .before .before .before .before .before .before .end-part .result .now))) (c .before .before .before .before .before .before .before .before .before .address-of .ensures) (c .before .before .before .before .before .before .before .before .before .before .room-check .ensures) ∙ sure-check (c .before .before .before .before .before .before .before .before .before .before .before .before .before .before .before .before .before .before .before .before .before .args .sure) (labels (c .before .before .before .before .before .before .before .before .before .before .before .before .before .before .before .before .before .before .before .before .before .args .keys .now) (c .before .before .before .before .before .before .before .before .before .before .before .before .before .before .before .before .before .before .before .before .before .args .places .now)) (take (c .before .before .before .before .before .before .before .before .before .before .before .before .before .before .before .before .loop .count) (c .before .before .before .before .before .before .before .before .before .before .before .before .before .before .before .before .loop .seen)) _ _ (c .before .before .before .before .before .before .before .before .before .before .before .before .what-in .result) (firstLine (c .before .before .before .before .before .before .before .before .before .before .before .before .before .before .end-part .result .now)) (λ e. first-known _ _ (firstLine (c .before .before .before .before .before .before .before .before .before .before .before .before .before .before .end-part .result .now)) (c .before .before .before .before .before .before .before .before .before .before .before .before .what-in .result) (g .lines) (c .before .before .before .before .before .before .before .before .before .before .before .before .what-in .ensures) (c .before .before .before .before .before .before .before .before .before .before .before .before .before .before .before .before .loop .inv .7 e))) ∙ c .before .before .before .before .before .enum-told .given .1) in
     let f = c .before .before .before .before .before .before .before .before .before .before .before .before .before .before .before .before .before .before .before .before .before .fits .end in
     omega arith
 
@@ -91,32 +93,42 @@ add-lines c =
 
 add-at : tie.Need-add-at Inv-loop μ-loop
 add-at c =
-    let k = c .before .before .before .before .before .before .before .before .before .before .before .before .before .before .before .before .loop .inv .6 in
-    let g = line-there (c .before .before .before .before .before .before .before .before .before .before .before .before .before .before .before .before .before .before .before .before .before .args .text .now) (c .before .before .before .before .before .before .before .before .before .before .before .before .before .before .line-at .result .now) (c .before .before .before .before .before .before .before .before .before .before .before .before .before .before .before .before .loop .at) (c .before .before .before .before .before .before .before .before .before .before .before .before .before .before .before .loop-test .taken) (c .before .before .before .before .before .before .before .before .before .before .before .before .before .before .line-at .ensures) .within in
-    let h : c .before .before .before .before .before .before .before .before .before .before .before .before .before .before .before .before .loop .at + length (c .before .before .before .before .before .before .before .before .before .before .before .before .before .before .line-at .result .now) < 2 ^ 64 = omega arith in
+    let k = c .before .before .before .before .before .before .before .before .before .before .before .before .before .before .before .before .before .loop .inv .6 in
+    let g = line-next (c .before .before .before .before .before .before .before .before .before .before .before .before .before .before .before .before .before .before .before .before .before .before .args .text .now) (c .before .before .before .before .before .before .before .before .before .before .before .before .before .before .before .end-part .result .now) (c .before .before .before .before .before .before .before .before .before .before .before .before .before .before .before .before .before .loop .at) (c .before .before .before .before .before .before .before .before .before .before .before .before .before .before .cut-line .result) (c .before .before .before .before .before .before .before .before .before .before .before .before .before .before .before .before .loop-test .taken) (c .before .before .before .before .before .before .before .before .before .before .before .before .before .before .before .end-part .ensures) (c .before .before .before .before .before .before .before .before .before .before .before .before .before .before .cut-line .ensures) in
+    let w = g .within in
+    let h : c .before .before .before .before .before .before .before .before .before .before .before .before .before .before .cut-line .result .end + 1 < 2 ^ 64 = omega arith in
+    record { fits = h }
+
+add-at-2 : tie.Need-add-at-2 Inv-loop μ-loop
+add-at-2 c =
+    let k = c .before .before .before .before .before .before .before .before .before .before .before .before .before .before .before .before .before .loop .inv .6 in
+    let g = line-next (c .before .before .before .before .before .before .before .before .before .before .before .before .before .before .before .before .before .before .before .before .before .before .args .text .now) (c .before .before .before .before .before .before .before .before .before .before .before .before .before .before .before .end-part .result .now) (c .before .before .before .before .before .before .before .before .before .before .before .before .before .before .before .before .before .loop .at) (c .before .before .before .before .before .before .before .before .before .before .before .before .before .before .cut-line .result) (c .before .before .before .before .before .before .before .before .before .before .before .before .before .before .before .before .loop-test .taken) (c .before .before .before .before .before .before .before .before .before .before .before .before .before .before .before .end-part .ensures) (c .before .before .before .before .before .before .before .before .before .before .before .before .before .before .cut-line .ensures) in
+    let w = g .within in
+    let h : c .before .before .before .before .before .before .before .before .before .before .before .before .before .before .before .before .before .loop .at + (c .before .before .before .before .before .before .before .before .before .before .before .before .before .before .cut-line .result .end + 1) < 2 ^ 64 = omega arith in
     record { fits = h }
 
 loop-less : tie.Need-loop-less Inv-loop μ-loop
 loop-less c =
-    let g = line-there (c .before .before .before .before .before .before .before .before .before .before .before .before .before .before .before .before .before .before .before .before .before .args .text .now) (c .before .before .before .before .before .before .before .before .before .before .before .before .before .before .line-at .result .now) (c .before .before .before .before .before .before .before .before .before .before .before .before .before .before .before .before .loop .at) (c .before .before .before .before .before .before .before .before .before .before .before .before .before .before .before .loop-test .taken) (c .before .before .before .before .before .before .before .before .before .before .before .before .before .before .line-at .ensures) in
+    let g = line-next (c .before .before .before .before .before .before .before .before .before .before .before .before .before .before .before .before .before .before .before .before .before .before .args .text .now) (c .before .before .before .before .before .before .before .before .before .before .before .before .before .before .before .end-part .result .now) (c .before .before .before .before .before .before .before .before .before .before .before .before .before .before .before .before .before .loop .at) (c .before .before .before .before .before .before .before .before .before .before .before .before .before .before .cut-line .result) (c .before .before .before .before .before .before .before .before .before .before .before .before .before .before .before .before .loop-test .taken) (c .before .before .before .before .before .before .before .before .before .before .before .before .before .before .before .end-part .ensures) (c .before .before .before .before .before .before .before .before .before .before .before .before .before .before .cut-line .ensures) in
     let w = g .within in
     let p = g .some in
     omega arith
 
 loop-again : tie.Need-loop-again Inv-loop μ-loop
 loop-again c =
-    let g = line-there (c .before .before .before .before .before .before .before .before .before .before .before .before .before .before .before .before .before .before .before .before .before .args .text .now) (c .before .before .before .before .before .before .before .before .before .before .before .before .before .before .line-at .result .now) (c .before .before .before .before .before .before .before .before .before .before .before .before .before .before .before .before .loop .at) (c .before .before .before .before .before .before .before .before .before .before .before .before .before .before .before .loop-test .taken) (c .before .before .before .before .before .before .before .before .before .before .before .before .before .before .line-at .ensures) in
-    let e = c .before .before .add-name .ensures in
+    let g = line-next (c .before .before .before .before .before .before .before .before .before .before .before .before .before .before .before .before .before .before .before .before .before .before .args .text .now) (c .before .before .before .before .before .before .before .before .before .before .before .before .before .before .before .end-part .result .now) (c .before .before .before .before .before .before .before .before .before .before .before .before .before .before .before .before .before .loop .at) (c .before .before .before .before .before .before .before .before .before .before .before .before .before .before .cut-line .result) (c .before .before .before .before .before .before .before .before .before .before .before .before .before .before .before .before .loop-test .taken) (c .before .before .before .before .before .before .before .before .before .before .before .before .before .before .before .end-part .ensures) (c .before .before .before .before .before .before .before .before .before .before .before .before .before .before .cut-line .ensures) in
+    let e = c .before .before .before .add-name .ensures in
     let p = g .some in
-    let i = c .before .before .before .before .before .before .before .before .before .before .before .before .before .before .before .before .loop .inv .4 in (
+    let i = c .before .before .before .before .before .before .before .before .before .before .before .before .before .before .before .before .before .loop .inv .4 in
+    let d = (c .before .before .before .before .before .before .before .before .line-check .ensures ∙ ap₂ (λ (x : ByteAddr) (y : Checked). checkSure (c .before .before .before .before .before .before .before .before .before .before .before .before .before .before .before .before .before .before .before .before .before .before .args .sure) (labels (c .before .before .before .before .before .before .before .before .before .before .before .before .before .before .before .before .before .before .before .before .before .before .args .keys .now) (c .before .before .before .before .before .before .before .before .before .before .before .before .before .before .before .before .before .before .before .before .before .before .args .places .now)) (take (c .before .before .before .before .before .before .before .before .before .before .before .before .before .before .before .before .before .loop .count) (c .before .before .before .before .before .before .before .before .before .before .before .before .before .before .before .before .before .loop .seen)) x y (c .before .before .before .before .before .before .before .before .before .before .before .before .before .what-in .result) (firstLine (c .before .before .before .before .before .before .before .before .before .before .before .before .before .before .before .end-part .result .now))) (c .before .before .before .before .before .before .before .before .before .before .address-of .ensures) (c .before .before .before .before .before .before .before .before .before .before .before .room-check .ensures) ∙ sure-check (c .before .before .before .before .before .before .before .before .before .before .before .before .before .before .before .before .before .before .before .before .before .before .args .sure) (labels (c .before .before .before .before .before .before .before .before .before .before .before .before .before .before .before .before .before .before .before .before .before .before .args .keys .now) (c .before .before .before .before .before .before .before .before .before .before .before .before .before .before .before .before .before .before .before .before .before .before .args .places .now)) (take (c .before .before .before .before .before .before .before .before .before .before .before .before .before .before .before .before .before .loop .count) (c .before .before .before .before .before .before .before .before .before .before .before .before .before .before .before .before .before .loop .seen)) _ _ (c .before .before .before .before .before .before .before .before .before .before .before .before .before .what-in .result) (firstLine (c .before .before .before .before .before .before .before .before .before .before .before .before .before .before .before .end-part .result .now)) (λ e. first-known _ _ (firstLine (c .before .before .before .before .before .before .before .before .before .before .before .before .before .before .before .end-part .result .now)) (c .before .before .before .before .before .before .before .before .before .before .before .before .before .what-in .result) (g .lines) (c .before .before .before .before .before .before .before .before .before .before .before .before .before .what-in .ensures) (c .before .before .before .before .before .before .before .before .before .before .before .before .before .before .before .before .before .loop .inv .7 e))) in (
       g .within,
       e .1,
       e .2,
-      fine-room _ _ _ _ _ _ _ _ (sym (c .before .before .before .before .before .before .before .line-check .ensures ∙ ap₂ (λ (x : ByteAddr) (y : Checked). checkSure (c .before .before .before .before .before .before .before .before .before .before .before .before .before .before .before .before .before .before .before .before .before .args .sure) (labels (c .before .before .before .before .before .before .before .before .before .before .before .before .before .before .before .before .before .before .before .before .before .args .keys .now) (c .before .before .before .before .before .before .before .before .before .before .before .before .before .before .before .before .before .before .before .before .before .args .places .now)) (take (c .before .before .before .before .before .before .before .before .before .before .before .before .before .before .before .before .loop .count) (c .before .before .before .before .before .before .before .before .before .before .before .before .before .before .before .before .loop .seen)) x y (c .before .before .before .before .before .before .before .before .before .before .before .before .what-of .result) (c .before .before .before .before .before .before .before .before .before .before .before .before .before .before .line-at .result .now)) (c .before .before .before .before .before .before .before .before .before .address-of .ensures) (c .before .before .before .before .before .before .before .before .before .before .room-check .ensures) ∙ sure-check (c .before .before .before .before .before .before .before .before .before .before .before .before .before .before .before .before .before .before .before .before .before .args .sure) (labels (c .before .before .before .before .before .before .before .before .before .before .before .before .before .before .before .before .before .before .before .before .before .args .keys .now) (c .before .before .before .before .before .before .before .before .before .before .before .before .before .before .before .before .before .before .before .before .before .args .places .now)) (take (c .before .before .before .before .before .before .before .before .before .before .before .before .before .before .before .before .loop .count) (c .before .before .before .before .before .before .before .before .before .before .before .before .before .before .before .before .loop .seen)) _ _ (c .before .before .before .before .before .before .before .before .before .before .before .before .what-of .result) (c .before .before .before .before .before .before .before .before .before .before .before .before .before .before .line-at .result .now) (λ e. first-known _ _ (c .before .before .before .before .before .before .before .before .before .before .before .before .before .before .line-at .result .now) (c .before .before .before .before .before .before .before .before .before .before .before .before .what-of .result) (line-there (c .before .before .before .before .before .before .before .before .before .before .before .before .before .before .before .before .before .before .before .before .before .args .text .now) (c .before .before .before .before .before .before .before .before .before .before .before .before .before .before .line-at .result .now) (c .before .before .before .before .before .before .before .before .before .before .before .before .before .before .before .before .loop .at) (c .before .before .before .before .before .before .before .before .before .before .before .before .before .before .before .loop-test .taken) (c .before .before .before .before .before .before .before .before .before .before .before .before .before .before .line-at .ensures) .lines) (c .before .before .before .before .before .before .before .before .before .before .before .before .what-of .ensures ∙ ap whatOf (c .before .before .before .before .before .before .before .before .before .before .before .before .before .body .ensures)) (c .before .before .before .before .before .before .before .before .before .before .before .before .before .before .before .before .loop .inv .7 e))) ∙ c .before .before .before .before .before .enum-told .given .1),
+      fine-room _ _ _ _ _ _ _ _ (sym d ∙ c .before .before .before .before .before .before .enum-told .given .1),
       omega arith,
-      verdict-on _ _ _ _ _ _ _ _ _ _ _ _ _ _ (g .lines) (c .before .before .before .before .before .before .before .before .before .before .before .before .what-of .ensures ∙ ap whatOf (c .before .before .before .before .before .before .before .before .before .before .before .before .before .body .ensures)) (c .before .before .before .before .before .before .before .before .before .before .before .bytes-for .ensures) (c .before .before .before .before .before .before .before .line-check .ensures ∙ ap₂ (λ (x : ByteAddr) (y : Checked). checkSure (c .before .before .before .before .before .before .before .before .before .before .before .before .before .before .before .before .before .before .before .before .before .args .sure) (labels (c .before .before .before .before .before .before .before .before .before .before .before .before .before .before .before .before .before .before .before .before .before .args .keys .now) (c .before .before .before .before .before .before .before .before .before .before .before .before .before .before .before .before .before .before .before .before .before .args .places .now)) (take (c .before .before .before .before .before .before .before .before .before .before .before .before .before .before .before .before .loop .count) (c .before .before .before .before .before .before .before .before .before .before .before .before .before .before .before .before .loop .seen)) x y (c .before .before .before .before .before .before .before .before .before .before .before .before .what-of .result) (c .before .before .before .before .before .before .before .before .before .before .before .before .before .before .line-at .result .now)) (c .before .before .before .before .before .before .before .before .before .address-of .ensures) (c .before .before .before .before .before .before .before .before .before .before .room-check .ensures) ∙ sure-check (c .before .before .before .before .before .before .before .before .before .before .before .before .before .before .before .before .before .before .before .before .before .args .sure) (labels (c .before .before .before .before .before .before .before .before .before .before .before .before .before .before .before .before .before .before .before .before .before .args .keys .now) (c .before .before .before .before .before .before .before .before .before .before .before .before .before .before .before .before .before .before .before .before .before .args .places .now)) (take (c .before .before .before .before .before .before .before .before .before .before .before .before .before .before .before .before .loop .count) (c .before .before .before .before .before .before .before .before .before .before .before .before .before .before .before .before .loop .seen)) _ _ (c .before .before .before .before .before .before .before .before .before .before .before .before .what-of .result) (c .before .before .before .before .before .before .before .before .before .before .before .before .before .before .line-at .result .now) (λ e. first-known _ _ (c .before .before .before .before .before .before .before .before .before .before .before .before .before .before .line-at .result .now) (c .before .before .before .before .before .before .before .before .before .before .before .before .what-of .result) (line-there (c .before .before .before .before .before .before .before .before .before .before .before .before .before .before .before .before .before .before .before .before .before .args .text .now) (c .before .before .before .before .before .before .before .before .before .before .before .before .before .before .line-at .result .now) (c .before .before .before .before .before .before .before .before .before .before .before .before .before .before .before .before .loop .at) (c .before .before .before .before .before .before .before .before .before .before .before .before .before .before .before .loop-test .taken) (c .before .before .before .before .before .before .before .before .before .before .before .before .before .before .line-at .ensures) .lines) (c .before .before .before .before .before .before .before .before .before .before .before .before .what-of .ensures ∙ ap whatOf (c .before .before .before .before .before .before .before .before .before .before .before .before .before .body .ensures)) (c .before .before .before .before .before .before .before .before .before .before .before .before .before .before .before .before .loop .inv .7 e))) (c .before .before .before .before .before .enum-told .given .1) (c .before .before .before .label-in .ensures) (e .0) (add-one _) ∙ c .before .before .before .before .before .before .before .before .before .before .before .before .before .before .before .before .loop .inv .5,
-      c .before .before .before .before .before .before .before .before .before .before .before .before .before .before .before .before .loop .inv .6,
-      (λ e. rest-known _ _ _ _ (g .lines) (c .before .before .before .before .before .before .before .before .before .before .before .before .what-of .ensures ∙ ap whatOf (c .before .before .before .before .before .before .before .before .before .before .before .before .before .body .ensures)) (c .before .before .before .before .before .before .before .before .before .before .before .before .before .before .before .before .loop .inv .7 e)),
+      verdict-on _ _ _ _ _ _ _ _ _ _ _ _ _ _ (g .lines) (c .before .before .before .before .before .before .before .before .before .before .before .before .before .what-in .ensures) (c .before .before .before .before .before .before .before .before .before .before .before .before .bytes-for .ensures) d (c .before .before .before .before .before .before .enum-told .given .1) (c .before .before .before .before .label-in .ensures) (e .0) (add-one _) ∙ c .before .before .before .before .before .before .before .before .before .before .before .before .before .before .before .before .before .loop .inv .5,
+      c .before .before .before .before .before .before .before .before .before .before .before .before .before .before .before .before .before .loop .inv .6,
+      (λ e. rest-known _ _ _ _ (g .lines) (c .before .before .before .before .before .before .before .before .before .before .before .before .before .what-in .ensures) (c .before .before .before .before .before .before .before .before .before .before .before .before .before .before .before .before .before .loop .inv .7 e)),
     )
 
 enum-known-checked : tie.Need-enum-known-checked Inv-loop μ-loop
@@ -126,12 +138,12 @@ add-t29 : tie.Need-add-t29 Inv-loop μ-loop
 add-t29 c = search needs
 
 same-length : tie.Need-same-length Inv-loop μ-loop
-same-length c = search needs
+same-length c = c .before .before .before .before .before .before .before .before .before .before .before .before .loop .inv .2 ∙ sym (c .before .before .before .before .before .before .before .before .before .before .before .before .before .before .before .before .before .pre .1)
 
 returns : tie.Need-returns Inv-loop μ-loop
 returns c =
-    let g = line-there (c .before .before .before .before .before .before .before .before .before .before .before .before .before .before .before .before .before .args .text .now) (c .before .before .before .before .before .before .before .before .before .before .line-at .result .now) (c .before .before .before .before .before .before .before .before .before .before .before .before .loop .at) (c .before .before .before .before .before .before .before .before .before .before .before .loop-test .taken) (c .before .before .before .before .before .before .before .before .before .before .line-at .ensures) in
-    verdict-stops _ _ _ _ _ _ _ _ _ _ _ _ _ (g .lines) (c .before .before .before .before .before .before .before .before .what-of .ensures ∙ ap whatOf (c .before .before .before .before .before .before .before .before .before .body .ensures)) (c .before .before .before .before .before .before .before .bytes-for .ensures) (c .before .before .before .line-check .ensures ∙ ap₂ (λ (x : ByteAddr) (y : Checked). checkSure (c .before .before .before .before .before .before .before .before .before .before .before .before .before .before .before .before .before .args .sure) (labels (c .before .before .before .before .before .before .before .before .before .before .before .before .before .before .before .before .before .args .keys .now) (c .before .before .before .before .before .before .before .before .before .before .before .before .before .before .before .before .before .args .places .now)) (take (c .before .before .before .before .before .before .before .before .before .before .before .before .loop .count) (c .before .before .before .before .before .before .before .before .before .before .before .before .loop .seen)) x y (c .before .before .before .before .before .before .before .before .what-of .result) (c .before .before .before .before .before .before .before .before .before .before .line-at .result .now)) (c .before .before .before .before .before .address-of .ensures) (c .before .before .before .before .before .before .room-check .ensures) ∙ sure-check (c .before .before .before .before .before .before .before .before .before .before .before .before .before .before .before .before .before .args .sure) (labels (c .before .before .before .before .before .before .before .before .before .before .before .before .before .before .before .before .before .args .keys .now) (c .before .before .before .before .before .before .before .before .before .before .before .before .before .before .before .before .before .args .places .now)) (take (c .before .before .before .before .before .before .before .before .before .before .before .before .loop .count) (c .before .before .before .before .before .before .before .before .before .before .before .before .loop .seen)) _ _ (c .before .before .before .before .before .before .before .before .what-of .result) (c .before .before .before .before .before .before .before .before .before .before .line-at .result .now) (λ e. first-known _ _ (c .before .before .before .before .before .before .before .before .before .before .line-at .result .now) (c .before .before .before .before .before .before .before .before .what-of .result) (line-there (c .before .before .before .before .before .before .before .before .before .before .before .before .before .before .before .before .before .args .text .now) (c .before .before .before .before .before .before .before .before .before .before .line-at .result .now) (c .before .before .before .before .before .before .before .before .before .before .before .before .loop .at) (c .before .before .before .before .before .before .before .before .before .before .before .loop-test .taken) (c .before .before .before .before .before .before .before .before .before .before .line-at .ensures) .lines) (c .before .before .before .before .before .before .before .before .what-of .ensures ∙ ap whatOf (c .before .before .before .before .before .before .before .before .before .body .ensures)) (c .before .before .before .before .before .before .before .before .before .before .before .before .loop .inv .7 e))) (c .before .checked .given .1) (add-one _) ∙ c .before .before .before .before .before .before .before .before .before .before .before .before .loop .inv .5
+    let g = line-next (c .before .before .before .before .before .before .before .before .before .before .before .before .before .before .before .before .before .args .text .now) (c .before .before .before .before .before .before .before .before .before .before .end-part .result .now) (c .before .before .before .before .before .before .before .before .before .before .before .before .loop .at) (c .before .before .before .before .before .before .before .before .before .cut-line .result) (c .before .before .before .before .before .before .before .before .before .before .before .loop-test .taken) (c .before .before .before .before .before .before .before .before .before .before .end-part .ensures) (c .before .before .before .before .before .before .before .before .before .cut-line .ensures) in
+    verdict-stops _ _ _ _ _ _ _ _ _ _ _ _ _ (g .lines) (c .before .before .before .before .before .before .before .before .what-in .ensures) (c .before .before .before .before .before .before .before .bytes-for .ensures) (c .before .before .before .line-check .ensures ∙ ap₂ (λ (x : ByteAddr) (y : Checked). checkSure (c .before .before .before .before .before .before .before .before .before .before .before .before .before .before .before .before .before .args .sure) (labels (c .before .before .before .before .before .before .before .before .before .before .before .before .before .before .before .before .before .args .keys .now) (c .before .before .before .before .before .before .before .before .before .before .before .before .before .before .before .before .before .args .places .now)) (take (c .before .before .before .before .before .before .before .before .before .before .before .before .loop .count) (c .before .before .before .before .before .before .before .before .before .before .before .before .loop .seen)) x y (c .before .before .before .before .before .before .before .before .what-in .result) (firstLine (c .before .before .before .before .before .before .before .before .before .before .end-part .result .now))) (c .before .before .before .before .before .address-of .ensures) (c .before .before .before .before .before .before .room-check .ensures) ∙ sure-check (c .before .before .before .before .before .before .before .before .before .before .before .before .before .before .before .before .before .args .sure) (labels (c .before .before .before .before .before .before .before .before .before .before .before .before .before .before .before .before .before .args .keys .now) (c .before .before .before .before .before .before .before .before .before .before .before .before .before .before .before .before .before .args .places .now)) (take (c .before .before .before .before .before .before .before .before .before .before .before .before .loop .count) (c .before .before .before .before .before .before .before .before .before .before .before .before .loop .seen)) _ _ (c .before .before .before .before .before .before .before .before .what-in .result) (firstLine (c .before .before .before .before .before .before .before .before .before .before .end-part .result .now)) (λ e. first-known _ _ (firstLine (c .before .before .before .before .before .before .before .before .before .before .end-part .result .now)) (c .before .before .before .before .before .before .before .before .what-in .result) (g .lines) (c .before .before .before .before .before .before .before .before .what-in .ensures) (c .before .before .before .before .before .before .before .before .before .before .before .before .loop .inv .7 e))) (c .before .checked .given .1) (add-one _) ∙ c .before .before .before .before .before .before .before .before .before .before .before .before .loop .inv .5
 
 same-length-2 : tie.Need-same-length-2 Inv-loop μ-loop
 same-length-2 c = search needs
@@ -146,9 +158,9 @@ judge-spec =
     Inv-loop
     μ-loop
     loop-holds
-    line-at-requires
-    body-requires
-    what-of-requires
+    end-part-requires
+    cut-line-requires
+    what-in-requires
     bytes-for-requires
     room-check-requires
     address-of-requires
@@ -162,6 +174,7 @@ judge-spec =
     add-to
     add-lines
     add-at
+    add-at-2
     loop-less
     loop-again
     enum-known-checked

@@ -41,7 +41,7 @@ loop-again c =
     )
 
 returns : tie.Need-returns Inv-loop μ-loop
-returns c = omega (arith, tabs-none (c .before .before .before .args .l .now) (c .before .loop .i) (c .loop-test .left))
+returns c = (omega (arith, tabs-none (c .before .before .before .args .l .now) (c .before .loop .i) (c .loop-test .left)), omega arith)
 
 pub tabs-in-spec : {M : Type 1} → statement M
 tabs-in-spec =

@@ -12,29 +12,26 @@ enum-told-2 c = search needs
 enum-told-3 : tie.Need-enum-told-3
 enum-told-3 c = search needs
 
+register-requires : tie.Need-register-requires
+register-requires c κs = search needs
+
+enum-told-4 : tie.Need-enum-told-4
+enum-told-4 c = search needs
+
 slice-aggregate-numbered : tie.Need-slice-aggregate-numbered
 slice-aggregate-numbered c = search needs
 
 numbered-requires : tie.Need-numbered-requires
 numbered-requires c κs = search needs
 
-enum-told-4 : tie.Need-enum-told-4
-enum-told-4 c = search needs
+enum-told-5 : tie.Need-enum-told-5
+enum-told-5 c = search needs
 
 slice-aggregate-numbered-2 : tie.Need-slice-aggregate-numbered-2
 slice-aggregate-numbered-2 c = search needs
 
 numbered-requires-2 : tie.Need-numbered-requires-2
 numbered-requires-2 c κs = search needs
-
-enum-told-5 : tie.Need-enum-told-5
-enum-told-5 c = search needs
-
-slice-aggregate-numbered-3 : tie.Need-slice-aggregate-numbered-3
-slice-aggregate-numbered-3 c = search needs
-
-numbered-requires-3 : tie.Need-numbered-requires-3
-numbered-requires-3 c κs = search needs
 
 enum-told-6 : tie.Need-enum-told-6
 enum-told-6 c = search needs
@@ -49,15 +46,15 @@ returns-2 c = rw (c .enum-told2 .given .1)
 
 returns-3 : tie.Need-returns-3
 unfolding numberAt
-returns-3 c = rw (c .numbered .ensures, c .before .before .enum-told3 .given .1)
+returns-3 c = rw (c .register .ensures, c .before .enum-told3 .given .1)
 
 returns-4 : tie.Need-returns-4
 unfolding numberAt
-returns-4 c = rw (c .numbered2 .ensures, c .before .before .enum-told4 .given .1)
+returns-4 c = rw (c .numbered .ensures, c .before .before .enum-told4 .given .1)
 
 returns-5 : tie.Need-returns-5
 unfolding numberAt
-returns-5 c = rw (c .numbered3 .ensures, c .before .before .enum-told5 .given .1)
+returns-5 c = rw (c .numbered2 .ensures, c .before .before .enum-told5 .given .1)
 
 returns-6 : tie.Need-returns-6
 unfolding numberAt
@@ -70,14 +67,13 @@ number-at-spec =
     enum-told
     enum-told-2
     enum-told-3
+    register-requires
+    enum-told-4
     slice-aggregate-numbered
     numbered-requires
-    enum-told-4
+    enum-told-5
     slice-aggregate-numbered-2
     numbered-requires-2
-    enum-told-5
-    slice-aggregate-numbered-3
-    numbered-requires-3
     enum-told-6
     returns
     returns-2

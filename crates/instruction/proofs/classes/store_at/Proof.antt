@@ -17,11 +17,11 @@ stop-if-requires c κs = search needs
 returns : tie.Need-returns
 returns c = rw (c .stop-if .ensures, c .before .keep .ensures, c .before .before .stored .ensures, ← (c .before .before .before .before .is-inside .ensures), c .before .before .before .if1 .taken)
 
-miss-requires : tie.Need-miss-requires
-miss-requires c κs = search needs
+halt-outside-requires : tie.Need-halt-outside-requires
+halt-outside-requires c κs = search needs
 
 returns-2 : tie.Need-returns-2
-returns-2 c = rw (c .miss .ensures, ← (c .before .before .is-inside .ensures), c .before .if1 .left)
+returns-2 c = rw (c .halt-outside .ensures, ← (c .before .before .is-inside .ensures), c .before .if1 .left)
 
 pub store-at-spec : {M : Type 1} → statement M
 store-at-spec =
@@ -32,5 +32,5 @@ store-at-spec =
     keep-requires
     stop-if-requires
     returns
-    miss-requires
+    halt-outside-requires
     returns-2)

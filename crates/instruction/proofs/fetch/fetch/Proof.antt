@@ -9,9 +9,6 @@ first-half-requires c κs = search needs
 enum-known-h : tie.Need-enum-known-h
 enum-known-h c = search needs
 
-enum-told : tie.Need-enum-told
-enum-told c = search needs
-
 enum-known-h-2 : tie.Need-enum-known-h-2
 enum-known-h-2 c = search needs
 
@@ -28,10 +25,7 @@ returns : tie.Need-returns
 returns c = rw (fetch-by-parts _ _ _, ← (c .before .before .before .first-half .ensures), c .before .h .given .1)
 
 returns-2 : tie.Need-returns-2
-returns-2 c = rw (fetch-by-parts _ _ _, ← (c .before .before .first-half .ensures), c .enum-told .given .1)
-
-returns-3 : tie.Need-returns-3
-returns-3 c = rw (c .rest-at .ensures, c .before .kind-of .ensures, fetch-by-parts _ _ _, ← (c .before .before .before .before .before .first-half .ensures), c .before .before .before .h2 .given .1)
+returns-2 c = rw (c .rest-at .ensures, c .before .kind-of .ensures, fetch-by-parts _ _ _, ← (c .before .before .before .before .before .first-half .ensures), c .before .before .before .h2 .given .1)
 
 pub fetch-spec : {M : Type 1} → statement M
 fetch-spec =
@@ -39,11 +33,9 @@ fetch-spec =
     (tie.spec
     first-half-requires
     enum-known-h
-    enum-told
     enum-known-h-2
     cast-kind-of
     kind-of-requires
     rest-at-requires
     returns
-    returns-2
-    returns-3)
+    returns-2)

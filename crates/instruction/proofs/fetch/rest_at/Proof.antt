@@ -13,9 +13,6 @@ second-half-requires c κs = search needs
 enum-known-s : tie.Need-enum-known-s
 enum-known-s c = search needs
 
-enum-told : tie.Need-enum-told
-enum-told c = search needs
-
 enum-known-s-2 : tie.Need-enum-known-s-2
 enum-known-s-2 c = search needs
 
@@ -32,11 +29,6 @@ returns c =
 
 returns-2 : tie.Need-returns-2
 returns-2 c =
-    by-second _ _ _ _ _ _
-    (sym (c .enum-told .given .1) ∙ rw (c .before .before .before .byte-sum .ensures) at (c .before .before .second-half .ensures))
-
-returns-3 : tie.Need-returns-3
-returns-3 c =
     rw (c .decoded .ensures, c .before .operands .ensures)
     (by-second _ _ _ _ _ _
     (sym (c .before .before .before .s2 .given .1)
@@ -49,10 +41,8 @@ rest-at-spec =
     byte-sum-requires
     second-half-requires
     enum-known-s
-    enum-told
     enum-known-s-2
     operands-requires
     decoded-requires
     returns
-    returns-2
-    returns-3)
+    returns-2)

@@ -8,7 +8,7 @@ use lib.Seq.{set-out}
 use Rattle.instruction.specs.Parts.{flags}
 use Rattle.machine.specs.Parts.{stateOf}
 use Rattle.machine.specs.Run.{Final, stepsOf}
-use Rattle.machine.proofs.Laws.{steps-all, mark-stays, steps-end, begins-stop, begins-entry, half-stops, half-goes}
+use Rattle.machine.proofs.Laws.{steps-all, mark-stays, steps-end, begins-stop, begins-error, begins-entry, half-stops, half-errs, half-goes}
 use Rattle.machine.proofs.run.steps.Statement.{statement}
 use Rattle.machine.proofs.run.steps.Tie as tie
 
@@ -34,6 +34,12 @@ begin-requires c κs = search needs
 enum-known-g : tie.Need-enum-known-g Inv-loop μ-loop
 enum-known-g c = search needs
 
+halt-requires : tie.Need-halt-requires Inv-loop μ-loop
+halt-requires c κs = search needs
+
+enum-known-x : tie.Need-enum-known-x Inv-loop μ-loop
+enum-known-x c = search needs
+
 end-at-requires : tie.Need-end-at-requires Inv-loop μ-loop
 end-at-requires c κs = search needs
 
@@ -45,21 +51,42 @@ same-length-2 c = search needs
 
 returns : tie.Need-returns Inv-loop μ-loop
 returns c =
-    let o = rw (c .before .before .before .before .before .before .before .wide .ensures) at (c .before .before .before .before .begin .ensures) in
-    let e = sym (begins-stop _ _ _ _ _ _ _ _ _ (c .before .before .before .before .before .before .before .before .before .loop-test .taken) _ o _ (c .before .before .g .given .1)) ∙ c .before .before .before .before .before .before .before .before .before .before .loop .inv .3 in
+    let o = rw (c .before .before .before .before .before .before .before .before .before .before .before .wide .ensures) at (c .before .before .before .before .before .before .before .before .begin .ensures) in
+    let e = sym (begins-stop _ _ _ _ _ _ _ _ _ (c .before .before .before .before .before .before .before .before .before .before .before .before .before .loop-test .taken) _ o _ (c .before .before .before .before .before .before .g .given .1) _ (sym (c .before .before .x .given .1) ∙ c .before .before .before .before .halt .ensures)) ∙ c .before .before .before .before .before .before .before .before .before .before .before .before .before .before .loop .inv .3 in
     (c .end-at .ensures ∙ ap (λ (f : Final). f .ended) e, (ap (λ (f : Final). f .mem) e, ap (λ (f : Final). f .marks) e))
+
+enum-known-x-2 : tie.Need-enum-known-x-2 Inv-loop μ-loop
+enum-known-x-2 c = search needs
+
+add-n : tie.Need-add-n Inv-loop μ-loop
+add-n c = omega (arith, c .before .before .before .before .before .before .before .before .before .before .before .before .loop-test .taken, c .before .before .before .before .before .before .before .before .before .before .before .before .before .before .before .before .before .before .before .before .fits .b)
+
+loop-less : tie.Need-loop-less Inv-loop μ-loop
+loop-less c = omega (arith, c .before .before .before .before .before .before .before .before .before .before .before .before .loop-test .taken)
+
+loop-again : tie.Need-loop-again Inv-loop μ-loop
+loop-again c =
+    let o = rw (c .before .before .before .before .before .before .before .before .before .before .wide .ensures) at (c .before .before .before .before .before .before .before .begin .ensures) in
+    let i = c .before .before .before .before .before .before .before .before .before .before .before .before .before .loop .inv in (
+      omega (arith, c .before .before .before .before .before .before .before .before .before .before .before .before .loop-test .taken),
+      i .1,
+      i .2,
+      sym (begins-error _ _ _ _ _ _ _ _ _ (c .before .before .before .before .before .before .before .before .before .before .before .before .loop-test .taken) _ o _ (c .before .before .before .before .before .g .given .1) _ (sym (c .before .x2 .given .1) ∙ c .before .before .before .halt .ensures) (i .4) (i .5)) ∙ i .3,
+      i .4,
+      i .5,
+    )
 
 enum-known-g-2 : tie.Need-enum-known-g-2 Inv-loop μ-loop
 enum-known-g-2 c = search needs
 
-add-n : tie.Need-add-n Inv-loop μ-loop
-add-n c = omega (arith, c .before .before .before .before .before .before .before .before .loop-test .taken, c .before .before .before .before .before .before .before .before .before .before .before .before .before .before .before .before .fits .b)
+add-n-2 : tie.Need-add-n-2 Inv-loop μ-loop
+add-n-2 c = omega (arith, c .before .before .before .before .before .before .before .before .loop-test .taken, c .before .before .before .before .before .before .before .before .before .before .before .before .before .before .before .before .fits .b)
 
-loop-less : tie.Need-loop-less Inv-loop μ-loop
-loop-less c = omega (arith, c .before .before .before .before .before .before .before .before .loop-test .taken)
+loop-less-2 : tie.Need-loop-less-2 Inv-loop μ-loop
+loop-less-2 c = omega (arith, c .before .before .before .before .before .before .before .before .loop-test .taken)
 
-loop-again : tie.Need-loop-again Inv-loop μ-loop
-loop-again c =
+loop-again-2 : tie.Need-loop-again-2 Inv-loop μ-loop
+loop-again-2 c =
     let o = rw (c .before .before .before .before .before .before .wide .ensures) at (c .before .before .before .begin .ensures) in
     let i = c .before .before .before .before .before .before .before .before .before .loop .inv in (
       omega (arith, c .before .before .before .before .before .before .before .before .loop-test .taken),
@@ -103,28 +130,56 @@ half-step-requires c κs = search needs
 enum-known-out : tie.Need-enum-known-out Inv-loop μ-loop
 enum-known-out c = search needs
 
+halt-requires-2 : tie.Need-halt-requires-2 Inv-loop μ-loop
+halt-requires-2 c κs = search needs
+
+enum-known-x-3 : tie.Need-enum-known-x-3 Inv-loop μ-loop
+enum-known-x-3 c = search needs
+
 end-at-requires-2 : tie.Need-end-at-requires-2 Inv-loop μ-loop
 end-at-requires-2 c κs = search needs
 
 same-length-3 : tie.Need-same-length-3 Inv-loop μ-loop
-same-length-3 c = let e = c .before .before .before .before .before .before .before .before .half-step .kept .1 .1 .1 .1 .1 .1 .1 .1 .0 ∙ c .before .before .before .before .before .before .before .before .before .before .before .before .before .before .before .before .before .before .before .before .loop .inv .1 in search needs
+same-length-3 c = let e = c .before .before .before .before .before .before .before .before .before .before .before .before .half-step .kept .1 .1 .1 .1 .1 .1 .1 .1 .0 ∙ c .before .before .before .before .before .before .before .before .before .before .before .before .before .before .before .before .before .before .before .before .before .before .before .before .loop .inv .1 in search needs
 
 same-length-4 : tie.Need-same-length-4 Inv-loop μ-loop
-same-length-4 c = let e = c .before .before .before .before .before .before .before .before .half-step .kept .1 .1 .1 .1 .1 .1 .1 .1 .1 .0 ∙ c .before .before .before .before .before .before .before .before .before .before .before .before .before .before .before .before .before .before .before .before .loop .inv .2 in search needs
+same-length-4 c = let e = c .before .before .before .before .before .before .before .before .before .before .before .before .half-step .kept .1 .1 .1 .1 .1 .1 .1 .1 .1 .0 ∙ c .before .before .before .before .before .before .before .before .before .before .before .before .before .before .before .before .before .before .before .before .before .before .before .before .loop .inv .2 in search needs
 
 returns-2 : tie.Need-returns-2 Inv-loop μ-loop
 returns-2 c =
-    let o = rw (c .before .before .before .before .before .before .before .before .before .before .before .before .before .before .before .before .before .wide .ensures) at (c .before .before .before .before .before .before .before .before .before .before .before .before .before .before .begin .ensures) in
-    let h = c .before .before .before .before .before .before .before .before .half-step .ensures in
-    let z = half-stops _ _ _ _ _ _ _ _ _ (c .before .before .before .before .before .before .before .before .before .before .before .before .before .before .before .before .before .before .before .loop-test .taken) _ o _ (c .before .before .before .before .before .before .before .before .before .before .before .before .g3 .given .1) _ (sym (c .before .before .out .given .1) ∙ h .0) in
-    let e = sym (z .0) ∙ c .before .before .before .before .before .before .before .before .before .before .before .before .before .before .before .before .before .before .before .before .loop .inv .3 in
+    let o = rw (c .before .before .before .before .before .before .before .before .before .before .before .before .before .before .before .before .before .before .before .before .before .wide .ensures) at (c .before .before .before .before .before .before .before .before .before .before .before .before .before .before .before .before .before .before .begin .ensures) in
+    let h = c .before .before .before .before .before .before .before .before .before .before .before .before .half-step .ensures in
+    let z = half-stops _ _ _ _ _ _ _ _ _ (c .before .before .before .before .before .before .before .before .before .before .before .before .before .before .before .before .before .before .before .before .before .before .before .loop-test .taken) _ o _ (c .before .before .before .before .before .before .before .before .before .before .before .before .before .before .before .before .g3 .given .1) _ (sym (c .before .before .before .before .before .before .out .given .1) ∙ h .0) _ (sym (c .before .before .x3 .given .1) ∙ c .before .before .before .before .halt2 .ensures) in
+    let e = sym (z .0) ∙ c .before .before .before .before .before .before .before .before .before .before .before .before .before .before .before .before .before .before .before .before .before .before .before .before .loop .inv .3 in
     (c .end-at2 .ensures ∙ ap (λ (f : Final). f .ended) e, (h .1 .0 ∙ z .1 ∙ ap (λ (f : Final). f .mem) e, h .1 .1 ∙ z .2 ∙ ap (λ (f : Final). f .marks) e))
+
+enum-known-x-4 : tie.Need-enum-known-x-4 Inv-loop μ-loop
+enum-known-x-4 c = search needs
+
+add-n-3 : tie.Need-add-n-3 Inv-loop μ-loop
+add-n-3 c = omega (arith, c .before .before .before .before .before .before .before .before .before .before .before .before .before .before .before .before .before .before .before .before .before .before .loop-test .taken, c .before .before .before .before .before .before .before .before .before .before .before .before .before .before .before .before .before .before .before .before .before .before .before .before .before .before .before .before .before .before .fits .b)
+
+loop-less-3 : tie.Need-loop-less-3 Inv-loop μ-loop
+loop-less-3 c = omega (arith, c .before .before .before .before .before .before .before .before .before .before .before .before .before .before .before .before .before .before .before .before .before .before .loop-test .taken)
+
+loop-again-3 : tie.Need-loop-again-3 Inv-loop μ-loop
+loop-again-3 c =
+    let o = rw (c .before .before .before .before .before .before .before .before .before .before .before .before .before .before .before .before .before .before .before .before .wide .ensures) at (c .before .before .before .before .before .before .before .before .before .before .before .before .before .before .before .before .before .begin .ensures) in
+    let i = c .before .before .before .before .before .before .before .before .before .before .before .before .before .before .before .before .before .before .before .before .before .before .before .loop .inv in
+    let h = c .before .before .before .before .before .before .before .before .before .before .before .half-step .ensures in (
+      omega (arith, c .before .before .before .before .before .before .before .before .before .before .before .before .before .before .before .before .before .before .before .before .before .before .loop-test .taken),
+      c .before .before .before .before .before .before .before .before .before .before .before .half-step .kept .1 .1 .1 .1 .1 .1 .1 .1 .0 ∙ i .1,
+      c .before .before .before .before .before .before .before .before .before .before .before .half-step .kept .1 .1 .1 .1 .1 .1 .1 .1 .1 .0 ∙ i .2,
+      sym (half-errs _ _ _ _ _ _ _ _ _ (c .before .before .before .before .before .before .before .before .before .before .before .before .before .before .before .before .before .before .before .before .before .before .loop-test .taken) _ o _ (c .before .before .before .before .before .before .before .before .before .before .before .before .before .before .before .g3 .given .1) _ (sym (c .before .before .before .before .before .out .given .1) ∙ h .0) _ (sym (c .before .x4 .given .1) ∙ c .before .before .before .halt2 .ensures) (i .4) (i .5) _ _ (h .1 .0) (h .1 .1)) ∙ i .3,
+      i .4,
+      i .5,
+    )
 
 enum-known-out-2 : tie.Need-enum-known-out-2 Inv-loop μ-loop
 enum-known-out-2 c = search needs
 
-add-n-2 : tie.Need-add-n-2 Inv-loop μ-loop
-add-n-2 c = omega (arith, c .before .before .before .before .before .before .before .before .before .before .before .before .before .before .before .before .before .before .before .loop-test .taken, c .before .before .before .before .before .before .before .before .before .before .before .before .before .before .before .before .before .before .before .before .before .before .before .before .before .before .before .fits .b)
+add-n-4 : tie.Need-add-n-4 Inv-loop μ-loop
+add-n-4 c = omega (arith, c .before .before .before .before .before .before .before .before .before .before .before .before .before .before .before .before .before .before .before .loop-test .taken, c .before .before .before .before .before .before .before .before .before .before .before .before .before .before .before .before .before .before .before .before .before .before .before .before .before .before .before .fits .b)
 
 cast-z : tie.Need-cast-z Inv-loop μ-loop
 cast-z c = search needs
@@ -141,11 +196,11 @@ same-requires c κs = search needs
 put-mark-requires : tie.Need-put-mark-requires Inv-loop μ-loop
 put-mark-requires c κs = search needs
 
-loop-less-2 : tie.Need-loop-less-2 Inv-loop μ-loop
-loop-less-2 c = omega (arith, c .before .before .before .before .before .before .before .before .before .before .before .before .before .before .before .before .before .before .before .before .before .before .before .before .before .before .loop-test .taken)
+loop-less-4 : tie.Need-loop-less-4 Inv-loop μ-loop
+loop-less-4 c = omega (arith, c .before .before .before .before .before .before .before .before .before .before .before .before .before .before .before .before .before .before .before .before .before .before .before .before .before .before .loop-test .taken)
 
-loop-again-2 : tie.Need-loop-again-2 Inv-loop μ-loop
-loop-again-2 c =
+loop-again-4 : tie.Need-loop-again-4 Inv-loop μ-loop
+loop-again-4 c =
     let o = rw (c .before .before .before .before .before .before .before .before .before .before .before .before .before .before .before .before .before .before .before .before .before .before .before .before .wide .ensures) at (c .before .before .before .before .before .before .before .before .before .before .before .before .before .before .before .before .before .before .before .before .before .begin .ensures) in
     let i = c .before .before .before .before .before .before .before .before .before .before .before .before .before .before .before .before .before .before .before .before .before .before .before .before .before .before .before .loop .inv in
     let h = c .before .before .before .before .before .before .before .before .before .before .before .before .before .before .before .half-step .ensures in (
@@ -157,11 +212,11 @@ loop-again-2 c =
       ap length (c .put-mark .ensures) ∙ length-set (c .before .before .before .before .before .before .before .before .before .before .before .before .before .before .before .before .before .before .before .before .before .before .before .before .before .before .before .loop .marks) (c .before .before .before .before .before .before .before .before .before .out2 .given .0 .0 .reg) (c .before .before .before .before .before .before .before .before .before .out2 .given .0 .0 .mark) ∙ i .5,
     )
 
-loop-less-3 : tie.Need-loop-less-3 Inv-loop μ-loop
-loop-less-3 c = omega (arith, c .before .before .before .before .before .before .before .before .before .before .before .before .before .before .before .before .before .before .before .before .before .before .before .before .before .loop-test .taken)
+loop-less-5 : tie.Need-loop-less-5 Inv-loop μ-loop
+loop-less-5 c = omega (arith, c .before .before .before .before .before .before .before .before .before .before .before .before .before .before .before .before .before .before .before .before .before .before .before .before .before .loop-test .taken)
 
-loop-again-3 : tie.Need-loop-again-3 Inv-loop μ-loop
-loop-again-3 c =
+loop-again-5 : tie.Need-loop-again-5 Inv-loop μ-loop
+loop-again-5 c =
     let o = rw (c .before .before .before .before .before .before .before .before .before .before .before .before .before .before .before .before .before .before .before .before .before .before .before .wide .ensures) at (c .before .before .before .before .before .before .before .before .before .before .before .before .before .before .before .before .before .before .before .before .begin .ensures) in
     let i = c .before .before .before .before .before .before .before .before .before .before .before .before .before .before .before .before .before .before .before .before .before .before .before .before .before .before .loop .inv in
     let h = c .before .before .before .before .before .before .before .before .before .before .before .before .before .before .half-step .ensures in (
@@ -173,11 +228,11 @@ loop-again-3 c =
       i .5,
     )
 
-loop-less-4 : tie.Need-loop-less-4 Inv-loop μ-loop
-loop-less-4 c = omega (arith, c .before .before .before .before .before .before .before .before .before .before .before .before .before .before .before .before .before .before .before .before .before .loop-test .taken)
+loop-less-6 : tie.Need-loop-less-6 Inv-loop μ-loop
+loop-less-6 c = omega (arith, c .before .before .before .before .before .before .before .before .before .before .before .before .before .before .before .before .before .before .before .before .before .loop-test .taken)
 
-loop-again-4 : tie.Need-loop-again-4 Inv-loop μ-loop
-loop-again-4 c =
+loop-again-6 : tie.Need-loop-again-6 Inv-loop μ-loop
+loop-again-6 c =
     let o = rw (c .before .before .before .before .before .before .before .before .before .before .before .before .before .before .before .before .before .before .before .wide .ensures) at (c .before .before .before .before .before .before .before .before .before .before .before .before .before .before .before .before .begin .ensures) in
     let i = c .before .before .before .before .before .before .before .before .before .before .before .before .before .before .before .before .before .before .before .before .before .before .loop .inv in
     let h = c .before .before .before .before .before .before .before .before .before .before .half-step .ensures in (
@@ -214,14 +269,20 @@ steps-spec =
     wide-requires
     begin-requires
     enum-known-g
+    halt-requires
+    enum-known-x
     end-at-requires
     same-length
     same-length-2
     returns
-    enum-known-g-2
+    enum-known-x-2
     add-n
     loop-less
     loop-again
+    enum-known-g-2
+    add-n-2
+    loop-less-2
+    loop-again-2
     enum-known-g-3
     cast-i
     cast-j
@@ -233,23 +294,29 @@ steps-spec =
     array-read-half-step-4
     half-step-requires
     enum-known-out
+    halt-requires-2
+    enum-known-x-3
     end-at-requires-2
     same-length-3
     same-length-4
     returns-2
+    enum-known-x-4
+    add-n-3
+    loop-less-3
+    loop-again-3
     enum-known-out-2
-    add-n-2
+    add-n-4
     cast-z
     put-value-requires
     array-read-was
     same-requires
     put-mark-requires
-    loop-less-2
-    loop-again-2
-    loop-less-3
-    loop-again-3
     loop-less-4
     loop-again-4
+    loop-less-5
+    loop-again-5
+    loop-less-6
+    loop-again-6
     end-at-requires-3
     same-length-5
     same-length-6

@@ -21,12 +21,6 @@ first-half-requires c κs = search needs
 enum-known-f : tie.Need-enum-known-f
 enum-known-f c = search needs
 
-enum-told-2 : tie.Need-enum-told-2
-enum-told-2 c = search needs
-
-enter-requires-2 : tie.Need-enter-requires-2
-enter-requires-2 c κs = search needs
-
 enum-known-f-2 : tie.Need-enum-known-f-2
 enum-known-f-2 c = search needs
 
@@ -40,11 +34,7 @@ returns-2 c = rw (← (c .before .before .before .before .before .before .choose
 
 returns-3 : tie.Need-returns-3
 unfolding begunOf
-returns-3 c = rw (c .enter2 .ensures, ← (c .before .before .before .before .before .before .choose .ensures), c .before .before .before .before .enum-told .given .1, ← (c .before .before .before .first-half .ensures), c .before .enum-told2 .given .1)
-
-returns-4 : tie.Need-returns-4
-unfolding begunOf
-returns-4 c = rw (← (c .before .before .before .before .before .before .choose .ensures), c .before .before .before .before .enum-told .given .1, ← (c .before .before .before .first-half .ensures), c .before .f2 .given .1)
+returns-3 c = rw (← (c .before .before .before .before .before .before .choose .ensures), c .before .before .before .before .enum-told .given .1, ← (c .before .before .before .first-half .ensures), c .before .f2 .given .1)
 
 pub begin-spec : {M : Type 1} → statement M
 begin-spec =
@@ -56,10 +46,7 @@ begin-spec =
     enum-told
     first-half-requires
     enum-known-f
-    enum-told-2
-    enter-requires-2
     enum-known-f-2
     returns
     returns-2
-    returns-3
-    returns-4)
+    returns-3)

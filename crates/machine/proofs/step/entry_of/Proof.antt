@@ -17,9 +17,6 @@ enum-known-r-2 c = search needs
 watch-requires-2 : tie.Need-watch-requires-2
 watch-requires-2 c κs = search needs
 
-enum-told-2 : tie.Need-enum-told-2
-enum-told-2 c = search needs
-
 enum-known-r-3 : tie.Need-enum-known-r-3
 enum-known-r-3 c = search needs
 
@@ -33,10 +30,7 @@ returns-3 : tie.Need-returns-3
 returns-3 c = rw (c .watch2 .ensures, c .before .before .r2 .given .1)
 
 returns-4 : tie.Need-returns-4
-returns-4 c = rw (c .enum-told2 .given .1)
-
-returns-5 : tie.Need-returns-5
-returns-5 c = rw (c .before .r3 .given .1)
+returns-4 c = rw (c .before .r3 .given .1)
 
 pub entry-of-spec : {M : Type 1} → statement M
 entry-of-spec =
@@ -47,10 +41,8 @@ entry-of-spec =
     watch-requires
     enum-known-r-2
     watch-requires-2
-    enum-told-2
     enum-known-r-3
     returns
     returns-2
     returns-3
-    returns-4
-    returns-5)
+    returns-4)

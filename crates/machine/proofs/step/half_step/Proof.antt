@@ -1,4 +1,4 @@
-use Rattle.machine.specs.Parts.{halfStep}
+use Rattle.machine.specs.Parts.{halfAct}
 use mathlib.Core.Path.{refl}
 use borrow.Author.Needs.{needs}
 use Rattle.machine.proofs.step.half_step.Statement.{statement}
@@ -16,12 +16,6 @@ rest-at-requires c κs = search needs
 enum-known-f : tie.Need-enum-known-f
 enum-known-f c = search needs
 
-enum-told : tie.Need-enum-told
-enum-told c = search needs
-
-fetch-error-requires : tie.Need-fetch-error-requires
-fetch-error-requires c κs = search needs
-
 enum-known-f-2 : tie.Need-enum-known-f-2
 enum-known-f-2 c = search needs
 
@@ -38,7 +32,7 @@ same-length-2 : tie.Need-same-length-2
 same-length-2 c = search needs
 
 returns : tie.Need-returns
-unfolding halfStep
+unfolding halfAct
 returns c = rw (← (c .before .before .before .before .before .before .kind-of .ensures), ← (c .before .before .before .rest-at .ensures), c .before .f .given .1) (refl, (refl, refl))
 
 same-length-3 : tie.Need-same-length-3
@@ -48,18 +42,8 @@ same-length-4 : tie.Need-same-length-4
 same-length-4 c = search needs
 
 returns-2 : tie.Need-returns-2
-unfolding halfStep
-returns-2 c = rw (c .fetch-error .ensures, ← (c .before .before .before .before .before .before .kind-of .ensures), ← (c .before .before .before .rest-at .ensures), c .before .enum-told .given .1) (refl, (refl, refl))
-
-same-length-5 : tie.Need-same-length-5
-same-length-5 c = search needs
-
-same-length-6 : tie.Need-same-length-6
-same-length-6 c = search needs
-
-returns-3 : tie.Need-returns-3
-unfolding halfStep
-returns-3 c =
+unfolding halfAct
+returns-2 c =
     rw (← (c .before .before .before .before .before .before .before .before .before .before .before .before .before .before .before .before .kind-of .ensures), ← (c .before .before .before .before .before .before .before .before .before .before .before .before .before .rest-at .ensures), c .before .before .before .before .before .before .before .before .before .before .before .f2 .given .1)
     (rw (c .before .before .before .before .before .before .before .act-on .ensures) at (c .before .before .before .before .act-step .ensures))
 
@@ -71,8 +55,6 @@ half-step-spec =
     kind-of-requires
     rest-at-requires
     enum-known-f
-    enum-told
-    fetch-error-requires
     enum-known-f-2
     act-on-requires
     act-step-requires
@@ -81,7 +63,4 @@ half-step-spec =
     returns
     same-length-3
     same-length-4
-    returns-2
-    same-length-5
-    same-length-6
-    returns-3)
+    returns-2)

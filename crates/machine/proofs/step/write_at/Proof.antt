@@ -20,9 +20,6 @@ set-marks-requires c κs = search needs
 enum-told-3 : tie.Need-enum-told-3
 enum-told-3 c = search needs
 
-enum-told-4 : tie.Need-enum-told-4
-enum-told-4 c = search needs
-
 returns : tie.Need-returns
 returns c = search needs
 
@@ -41,9 +38,6 @@ returns-3 c = rw (c .before .before .before .before .before .before .before .bef
 returns-4 : tie.Need-returns-4
 returns-4 c = search needs
 
-returns-5 : tie.Need-returns-5
-returns-5 c = search needs
-
 pub write-at-spec : {M : Type 1} → statement M
 write-at-spec =
     tie.close
@@ -54,11 +48,9 @@ write-at-spec =
     store-requires
     set-marks-requires
     enum-told-3
-    enum-told-4
     returns
     returns-2
     same-length
     same-length-2
     returns-3
-    returns-4
-    returns-5)
+    returns-4)
