@@ -20,7 +20,8 @@ use Rattle.isa.specs.declared.LongOp.{LongOp}
 use Rattle.isa.specs.declared.Instr.{Instr}
 use Rattle.cpu.specs.Control.{pcOf, withPc, withSfr, withPsw, withHwdbg, withPending, withTimer, withCycles, withTf, tf, cy, wants, sfrOf}
 use Rattle.cpu.specs.Entries.{vector, enter, entered, fallen}
-use Rattle.cpu.specs.Exec.{onward, goTo, linked, jump, branch, shortJump, longJump, carried, cmpOf, cmpImmOf, accepted, timerWritten, pswWritten, written, leave, exec, sourcesOf}
+use Rattle.cpu.specs.Exec.{onward, goTo, linked, jump, branch, shortJump, longJump, carried, cmpOf, cmpImmOf, accepted, timerWritten, pswWritten, written, leave, makes, exec, sourcesOf}
+use Rattle.cpu.specs.Cycles.{costOf}
 use Rattle.cpu.specs.declared.Control.{Control}
 use Rattle.cpu.specs.declared.Effect.{Effect}
 use Rattle.cpu.specs.declared.Entry.{Entry}
@@ -240,7 +241,7 @@ module _ (c : Control) (f : Form c) where
   long-jumps LongOp.Jl d = jumps (linked c) (links c f) d
 
   pub executes : (i : Instr) (x y v : ℕ) → Form (exec i x y v c .control)
-  unfolding exec
+  unfolding exec makes costOf
   executes (Instr.Alu op d b) x y v = onwards (carried op x y c) (carries op x y) 2 refl
   executes (Instr.ShiftImm op d n) x y v = onwards c f 2 refl
   executes (Instr.Cmp op d b) x y v = onwards (withTf c (cmpOf op x y)) (bit c f 8 (cmpOf op x y) (lit≤ tt)) 2 refl

@@ -19,7 +19,8 @@ use Rattle.isa.specs.declared.Instr.{Instr}
 use Rattle.isa.specs.declared.Decoded.{Decoded}
 use Rattle.cpu.specs.Control.{pcOf, withPc, withSfr, withPsw, withHwdbg, withPending, tf}
 use Rattle.cpu.specs.Entries.{enter, entered}
-use Rattle.cpu.specs.Exec.{onward, goTo, leave, exec, sourcesOf}
+use Rattle.cpu.specs.Exec.{onward, goTo, leave, makes, exec, sourcesOf}
+use Rattle.cpu.specs.Cycles.{costOf}
 use Rattle.cpu.specs.declared.Control.{Control}
 use Rattle.cpu.specs.declared.Entry.{Entry}
 use Rattle.marks.specs.Marks.{taint, blocked}
@@ -227,7 +228,7 @@ entry-bits Entry.DataError c =
 -- ---- the return from an entry
 
 pub return-bits : (c : Control) → Returned c (backFrom c)
-unfolding exec goTo leave withPc withSfr
+unfolding exec makes costOf goTo leave withPc withSfr
 return-bits c =
     let p : ℕ = c .psw in
     let one : ℕ = put p 3 1 (num (on p 6)) in

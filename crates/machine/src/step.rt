@@ -2,7 +2,8 @@
 ghost use mathlib.Core.Path.{_≡_};
 ghost use Prim.Native.Nat.{ℕ};
 ghost use Rattle.word.specs.Bits.{on};
-ghost use Rattle.cpu.specs.Entries.{entered, fallen};
+ghost use Rattle.cpu.specs.Entries.{entered, passed};
+ghost use Rattle.cpu.specs.Cycles.{entryCost};
 ghost use Rattle.instruction.specs.Parts.{val, flags};
 ghost use Rattle.machine.specs.Step.{storedTo, markedTo, entryBy, doneOf};
 ghost use Rattle.machine.specs.Parts.{haltedTo, begunOf, actOut, actMem, actMarks, halfAct};

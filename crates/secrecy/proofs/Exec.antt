@@ -16,7 +16,8 @@ use Rattle.isa.specs.declared.ShortOp.{ShortOp}
 use Rattle.isa.specs.declared.LongOp.{LongOp}
 use Rattle.isa.specs.declared.Instr.{Instr}
 use Rattle.cpu.specs.Control.{withSfr, tf, cy, sfrOf}
-use Rattle.cpu.specs.Exec.{aluOf, carried, shiftOf, cmpOf, cmpImmOf, condOf, immValue, wants, shortJump, longJump, written, putsReg, moves, exec, dataAddress}
+use Rattle.cpu.specs.Exec.{aluOf, carried, shiftOf, cmpOf, cmpImmOf, condOf, immValue, wants, shortJump, longJump, written, putsReg, moves, makes, exec, dataAddress}
+use Rattle.cpu.specs.Cycles.{costOf}
 use Rattle.cpu.specs.declared.Control.{Control}
 use Rattle.cpu.specs.declared.Effect.{Effect}
 use Rattle.instruction.specs.Act.{reachOf}
@@ -157,7 +158,7 @@ wants-same s t h = ap (λ (v : Bool). Bool·beq v t) (s .psw .tf h)
 pub exec-same : (i : Instr) (mx my l : Bool) (x y v u w z : ℕ) → (mx ≡ false → x ≡ u) → (my ≡ false → y ≡ w) → (l ≡ false → v ≡ z)
     → {f : Flags} {a b : Control} → SameControl f a b → blocked i my f ≡ false
     → SameEffect (taint i mx my l (tf a) f) (exec i x y v a) (exec i u w z b)
-unfolding taint exec blocked
+unfolding taint exec makes costOf blocked
 exec-same (Instr.Alu op d r) mx my l x y v u w z p q o s h =
     sets-same d _ _ (carries mx my x y u w p q s op) (alu-value mx my x y u w p q s op)
 exec-same (Instr.ShiftImm op d n) mx my l x y v u w z p q o s h = sets-same d _ _ s (λ e. ap (λ (k : ℕ). shiftOf op k n) (p e))

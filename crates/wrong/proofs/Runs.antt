@@ -10,7 +10,8 @@ use Rattle.isa.specs.Codes.{kindOf}
 use Rattle.isa.specs.Decode.{operandsOf, decodeOf}
 use Rattle.cpu.specs.Control.{freshControl, withPc}
 use Rattle.cpu.specs.Entries.{entered, isBreak, fallen}
-use Rattle.cpu.specs.Exec.{onward, immValue, exec, sourcesOf}
+use Rattle.cpu.specs.Exec.{onward, immValue, makes, exec, sourcesOf}
+use Rattle.cpu.specs.Cycles.{costOf}
 use Rattle.marks.specs.Marks.{immMark, taint, blocked}
 use Rattle.instruction.specs.Fetch.{halfAt, fetchOf}
 use Rattle.instruction.specs.Act.{reachOf, actOf}
@@ -50,7 +51,7 @@ unfolding anyAbove outOfForm judge stepsOf runOf
 moved-0 = refl
 
 pub moved-on : (moved 1 ≡ final Reply.Budget 1 (movedTo 2) program zeros) × (moved 2 ≡ final Reply.Budget 2 (movedTo 4) program zeros)
-unfolding load any anyAbove kindOf operandsOf decodeOf withPc entered isBreak fallen onward immValue exec sourcesOf immMark taint blocked halfAt fetchOf reachOf actOf outOfForm chosen doneOf instrStep stepOf after judge goOn stepsOf runOf
+unfolding load any anyAbove kindOf operandsOf decodeOf withPc entered isBreak fallen onward immValue exec makes costOf sourcesOf immMark taint blocked halfAt fetchOf reachOf actOf outOfForm chosen doneOf instrStep stepOf after judge goOn stepsOf runOf
 moved-on = (refl, refl)
 
 -- a run that stops at once: no instruction

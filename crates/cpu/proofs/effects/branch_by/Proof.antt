@@ -1,12 +1,8 @@
+use Rattle.cpu.specs.Exec.{branch}
+use borrow.Author.Tests.{lt-ltb, le-ltb, le-leb, lt-leb, eq-eqb, ne-eqb}
 use borrow.Author.Needs.{needs}
 use Rattle.cpu.proofs.effects.branch_by.Statement.{statement}
 use Rattle.cpu.proofs.effects.branch_by.Tie as tie
-use Rattle.cpu.proofs.effects.branch_by.Reads as reads
-use Rattle.cpu.proofs.effects.branch_by.Lts as lts
-use Rattle.cpu.proofs.effects.go_on.Reads as go-on-reads
-use Rattle.cpu.proofs.effects.is_wanted.Reads as is-wanted-reads
-use Rattle.cpu.proofs.effects.jump_by.Reads as jump-by-reads
-use Rattle.cpu.proofs.effects.move_to.Reads as move-to-reads
 
 is-wanted-requires : tie.Need-is-wanted-requires
 is-wanted-requires c κs = search needs
@@ -24,10 +20,12 @@ move-to-requires-2 : tie.Need-move-to-requires-2
 move-to-requires-2 c κs = search needs
 
 returns : tie.Need-returns
-returns c = ?
+unfolding branch
+returns c = rw (c .move-to .ensures, c .before .jump-by .ensures, ← (c .before .before .before .is-wanted .ensures), c .before .before .if1 .taken)
 
 returns-2 : tie.Need-returns-2
-returns-2 c = ?
+unfolding branch
+returns-2 c = rw (c .move-to2 .ensures, c .before .go-on .ensures, ← (c .before .before .before .is-wanted .ensures), c .before .before .if1 .left)
 
 pub branch-by-spec : {M : Type 1} → statement M
 branch-by-spec =

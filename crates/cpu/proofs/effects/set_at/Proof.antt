@@ -1,3 +1,4 @@
+use borrow.Author.Tests.{lt-ltb, le-ltb, le-leb, lt-leb, eq-eqb, ne-eqb}
 use borrow.Author.Needs.{needs}
 use Rattle.cpu.proofs.effects.set_at.Statement.{statement}
 use Rattle.cpu.proofs.effects.set_at.Tie as tie
@@ -9,7 +10,7 @@ go-on-requires : tie.Need-go-on-requires
 go-on-requires c κs = search needs
 
 returns : tie.Need-returns
-returns c = ?
+returns c = rw (c .go-on .ensures)
 
 pub set-at-spec : {M : Type 1} → statement M
 set-at-spec = tie.close (tie.spec go-on-requires returns)

@@ -1,8 +1,8 @@
+use Rattle.cpu.specs.Cycles.{entryCost}
+use borrow.Author.Tests.{lt-ltb, le-ltb, le-leb, lt-leb, eq-eqb, ne-eqb}
 use borrow.Author.Needs.{needs}
 use Rattle.cpu.proofs.entries.entry_cost.Statement.{statement}
 use Rattle.cpu.proofs.entries.entry_cost.Tie as tie
-use Rattle.cpu.proofs.entries.entry_cost.Reads as reads
-use Rattle.cpu.proofs.entries.entry_cost.Lts as lts
 
 enum-told : tie.Need-enum-told
 enum-told c = search needs
@@ -26,25 +26,32 @@ enum-told-7 : tie.Need-enum-told-7
 enum-told-7 c = search needs
 
 returns : tie.Need-returns
-returns c = ?
+unfolding entryCost
+returns c = rw (c .enum-told .given .1)
 
 returns-2 : tie.Need-returns-2
-returns-2 c = ?
+unfolding entryCost
+returns-2 c = rw (c .enum-told2 .given .1)
 
 returns-3 : tie.Need-returns-3
-returns-3 c = ?
+unfolding entryCost
+returns-3 c = rw (c .enum-told3 .given .1)
 
 returns-4 : tie.Need-returns-4
-returns-4 c = ?
+unfolding entryCost
+returns-4 c = rw (c .enum-told4 .given .1)
 
 returns-5 : tie.Need-returns-5
-returns-5 c = ?
+unfolding entryCost
+returns-5 c = rw (c .enum-told5 .given .1)
 
 returns-6 : tie.Need-returns-6
-returns-6 c = ?
+unfolding entryCost
+returns-6 c = rw (c .enum-told6 .given .1)
 
 returns-7 : tie.Need-returns-7
-returns-7 c = ?
+unfolding entryCost
+returns-7 c = rw (c .enum-told7 .given .1)
 
 pub entry-cost-spec : {M : Type 1} → statement M
 entry-cost-spec =

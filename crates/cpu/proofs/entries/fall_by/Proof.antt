@@ -1,9 +1,8 @@
+use mathlib.Core.Path.{_∙_}
+use Rattle.cpu.proofs.Laws.{fall-all, fall-some}
 use borrow.Author.Needs.{needs}
 use Rattle.cpu.proofs.entries.fall_by.Statement.{statement}
 use Rattle.cpu.proofs.entries.fall_by.Tie as tie
-use Rattle.cpu.proofs.entries.fall_by.Reads as reads
-use Rattle.cpu.proofs.entries.fall_by.Lts as lts
-use Rattle.cpu.proofs.places.with_timer.Reads as with-timer-reads
 
 with-timer-requires : tie.Need-with-timer-requires
 with-timer-requires c κs = search needs
@@ -15,10 +14,10 @@ with-timer-requires-2 : tie.Need-with-timer-requires-2
 with-timer-requires-2 c κs = search needs
 
 returns : tie.Need-returns
-returns c = ?
+returns c = c .with-timer .ensures ∙ fall-all _ _ (c .before .if1 .taken)
 
 returns-2 : tie.Need-returns-2
-returns-2 c = ?
+returns-2 c = c .with-timer2 .ensures ∙ fall-some _ _ (c .before .before .if1 .left)
 
 pub fall-by-spec : {M : Type 1} → statement M
 fall-by-spec =

@@ -1,11 +1,8 @@
+use Rattle.cpu.specs.Entries.{passed}
+use borrow.Author.Tests.{lt-ltb, le-ltb, le-leb, lt-leb, eq-eqb, ne-eqb}
 use borrow.Author.Needs.{needs}
 use Rattle.cpu.proofs.entries.pass.Statement.{statement}
 use Rattle.cpu.proofs.entries.pass.Tie as tie
-use Rattle.cpu.proofs.entries.pass.Reads as reads
-use Rattle.cpu.proofs.entries.pass.Lts as lts
-use Rattle.cpu.proofs.entries.fall.Reads as fall-reads
-use Rattle.cpu.proofs.places.with_cycles.Reads as with-cycles-reads
-use Rattle.std.proofs.num.wrapping_add_u32.Reads as wrapping-add-u32-reads
 
 fall-requires : tie.Need-fall-requires
 fall-requires c κs = search needs
@@ -17,7 +14,8 @@ with-cycles-requires : tie.Need-with-cycles-requires
 with-cycles-requires c κs = search needs
 
 returns : tie.Need-returns
-returns c = ?
+unfolding passed
+returns c = rw (c .with-cycles .ensures, c .before .wrapping-add-u32 .ensures, c .before .before .fall .ensures)
 
 pub pass-spec : {M : Type 1} → statement M
 pass-spec =

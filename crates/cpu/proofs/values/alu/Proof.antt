@@ -1,20 +1,9 @@
+use Rattle.cpu.specs.Exec.{aluOf, carried, makes, exec}
+use Rattle.cpu.specs.Cycles.{aluCost, costOf}
+use borrow.Author.Tests.{lt-ltb, le-ltb, le-leb, lt-leb, eq-eqb, ne-eqb}
 use borrow.Author.Needs.{needs}
 use Rattle.cpu.proofs.values.alu.Statement.{statement}
 use Rattle.cpu.proofs.values.alu.Tie as tie
-use Rattle.cpu.proofs.values.alu.Reads as reads
-use Rattle.cpu.proofs.values.alu.Lts as lts
-use Rattle.cpu.proofs.costs.shift_cost.Reads as shift-cost-reads
-use Rattle.cpu.proofs.effects.set_at.Reads as set-at-reads
-use Rattle.cpu.proofs.effects.set_reg.Reads as set-reg-reads
-use Rattle.cpu.proofs.effects.set_sum.Reads as set-sum-reads
-use Rattle.word.proofs.add.Reads as add-reads
-use Rattle.word.proofs.asr.Reads as asr-reads
-use Rattle.word.proofs.extend.Reads as extend-reads
-use Rattle.word.proofs.lsl.Reads as lsl-reads
-use Rattle.word.proofs.lsr.Reads as lsr-reads
-use Rattle.word.proofs.mult.Reads as mult-reads
-use Rattle.word.proofs.sub.Reads as sub-reads
-use Rattle.word.proofs.is_on.Reads as is-on-reads
 
 enum-told : tie.Need-enum-told
 enum-told c = search needs
@@ -164,52 +153,68 @@ set-at-requires-4 : tie.Need-set-at-requires-4
 set-at-requires-4 c κs = search needs
 
 returns : tie.Need-returns
-returns c = ?
+unfolding exec makes costOf aluCost aluOf carried
+returns c = rw (c .set-sum .ensures, c .before .sub .ensures, c .before .before .enum-told .given .1)
 
 returns-2 : tie.Need-returns-2
-returns-2 c = ?
+unfolding exec makes costOf aluCost aluOf carried
+returns-2 c = rw (c .set-sum2 .ensures, c .before .add .ensures, c .before .before .enum-told2 .given .1)
 
 returns-3 : tie.Need-returns-3
-returns-3 c = ?
+unfolding exec makes costOf aluCost aluOf carried
+returns-3 c = rw (c .set-sum3 .ensures, c .before .sub2 .ensures, c .before .before .is-on .ensures, c .before .before .before .enum-told3 .given .1)
 
 returns-4 : tie.Need-returns-4
-returns-4 c = ?
+unfolding exec makes costOf aluCost aluOf carried
+returns-4 c = rw (c .set-sum4 .ensures, c .before .add2 .ensures, c .before .before .is-on2 .ensures, c .before .before .before .enum-told4 .given .1)
 
 returns-5 : tie.Need-returns-5
-returns-5 c = ?
+unfolding exec makes costOf aluCost aluOf carried
+returns-5 c = rw (c .set-reg .ensures, c .before .enum-told5 .given .1)
 
 returns-6 : tie.Need-returns-6
-returns-6 c = ?
+unfolding exec makes costOf aluCost aluOf carried
+returns-6 c = rw (c .set-reg2 .ensures, c .before .enum-told6 .given .1)
 
 returns-7 : tie.Need-returns-7
-returns-7 c = ?
+unfolding exec makes costOf aluCost aluOf carried
+returns-7 c = rw (c .set-reg3 .ensures, c .before .enum-told7 .given .1)
 
 returns-8 : tie.Need-returns-8
-returns-8 c = ?
+unfolding exec makes costOf aluCost aluOf carried
+returns-8 c = rw (c .set-reg4 .ensures, c .before .enum-told8 .given .1)
 
 returns-9 : tie.Need-returns-9
-returns-9 c = ?
+unfolding exec makes costOf aluCost aluOf carried
+returns-9 c = rw (c .set-reg5 .ensures, c .before .extend .ensures, c .before .before .enum-told9 .given .1)
 
 returns-10 : tie.Need-returns-10
-returns-10 c = ?
+unfolding exec makes costOf aluCost aluOf carried
+returns-10 c = rw (c .set-reg6 .ensures, c .before .enum-told10 .given .1)
 
 returns-11 : tie.Need-returns-11
-returns-11 c = ?
+unfolding exec makes costOf aluCost aluOf carried
+returns-11 c = rw (c .set-reg7 .ensures, c .before .extend2 .ensures, c .before .before .enum-told11 .given .1)
 
 returns-12 : tie.Need-returns-12
-returns-12 c = ?
+unfolding exec makes costOf aluCost aluOf carried
+returns-12 c = rw (c .set-reg8 .ensures, c .before .enum-told12 .given .1)
 
 returns-13 : tie.Need-returns-13
-returns-13 c = ?
+unfolding exec makes costOf aluCost aluOf carried
+returns-13 c = rw (c .set-at .ensures, c .before .lsl .ensures, c .before .before .shift-cost .ensures, c .before .before .before .enum-told13 .given .1)
 
 returns-14 : tie.Need-returns-14
-returns-14 c = ?
+unfolding exec makes costOf aluCost aluOf carried
+returns-14 c = rw (c .set-at2 .ensures, c .before .lsr .ensures, c .before .before .shift-cost2 .ensures, c .before .before .before .enum-told14 .given .1)
 
 returns-15 : tie.Need-returns-15
-returns-15 c = ?
+unfolding exec makes costOf aluCost aluOf carried
+returns-15 c = rw (c .set-at3 .ensures, c .before .asr .ensures, c .before .before .shift-cost3 .ensures, c .before .before .before .enum-told15 .given .1)
 
 returns-16 : tie.Need-returns-16
-returns-16 c = ?
+unfolding exec makes costOf aluCost aluOf carried
+returns-16 c = rw (c .set-at4 .ensures, c .before .mult .ensures, c .before .before .enum-told16 .given .1)
 
 pub alu-spec : {M : Type 1} → statement M
 alu-spec =

@@ -1,14 +1,9 @@
+use Rattle.cpu.specs.Exec.{shiftOf, makes, exec}
+use Rattle.cpu.specs.Cycles.{shiftImmCost, costOf}
+use borrow.Author.Tests.{lt-ltb, le-ltb, le-leb, lt-leb, eq-eqb, ne-eqb}
 use borrow.Author.Needs.{needs}
 use Rattle.cpu.proofs.values.shift_imm.Statement.{statement}
 use Rattle.cpu.proofs.values.shift_imm.Tie as tie
-use Rattle.cpu.proofs.values.shift_imm.Reads as reads
-use Rattle.cpu.proofs.values.shift_imm.Lts as lts
-use Rattle.cpu.proofs.costs.shift_cost.Reads as shift-cost-reads
-use Rattle.cpu.proofs.effects.set_at.Reads as set-at-reads
-use Rattle.word.proofs.asr.Reads as asr-reads
-use Rattle.word.proofs.lsl.Reads as lsl-reads
-use Rattle.word.proofs.lsr.Reads as lsr-reads
-use Rattle.word.proofs.mult.Reads as mult-reads
 
 enum-told : tie.Need-enum-told
 enum-told c = search needs
@@ -56,16 +51,20 @@ set-at-requires-4 : tie.Need-set-at-requires-4
 set-at-requires-4 c κs = search needs
 
 returns : tie.Need-returns
-returns c = ?
+unfolding exec makes costOf shiftImmCost shiftOf
+returns c = rw (c .set-at .ensures, c .before .lsl .ensures, c .before .before .shift-cost .ensures, c .before .before .before .enum-told .given .1)
 
 returns-2 : tie.Need-returns-2
-returns-2 c = ?
+unfolding exec makes costOf shiftImmCost shiftOf
+returns-2 c = rw (c .set-at2 .ensures, c .before .lsr .ensures, c .before .before .shift-cost2 .ensures, c .before .before .before .enum-told2 .given .1)
 
 returns-3 : tie.Need-returns-3
-returns-3 c = ?
+unfolding exec makes costOf shiftImmCost shiftOf
+returns-3 c = rw (c .set-at3 .ensures, c .before .asr .ensures, c .before .before .shift-cost3 .ensures, c .before .before .before .enum-told3 .given .1)
 
 returns-4 : tie.Need-returns-4
-returns-4 c = ?
+unfolding exec makes costOf shiftImmCost shiftOf
+returns-4 c = rw (c .set-at4 .ensures, c .before .mult .ensures, c .before .before .enum-told4 .given .1)
 
 pub shift-imm-spec : {M : Type 1} → statement M
 shift-imm-spec =
