@@ -130,7 +130,10 @@ fn alu_on(
     ensures { λ r. ⌜ r ≡ cond (aluBlocked op mv) (Act.Halted Halt.MarkedOperand) (Act.Does (exec (Instr.Alu op d 0) u v 0 c) (taint (Instr.Alu op 0 0) mu mv false false (flags tf cy)) Reach.Nowhere) ⌝ }
 {
     let e = cpu::alu(op, d, u, v, c);
-    stop_if(marks::is_alu_blocked(op, mv), does(e, marks::mark_alu(op, mu, mv, tf, cy)))
+    stop_if(
+        marks::is_alu_blocked(op, mv),
+        does(e, marks::mark_alu(op, mu, mv, tf, cy)),
+    )
 }
 
 fn short_on(op: ShortOp, d: HalfDisp, tf: bool, cy: bool, c: Control) -> Act

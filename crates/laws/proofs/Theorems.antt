@@ -25,7 +25,7 @@ use Rattle.instruction.specs.declared.Fetched.{Fetched}
 use Rattle.machine.specs.State.{valueAt, outOfForm}
 use Rattle.machine.specs.Step.{stopped, completed, chosen, dataOf, entryDone, entryStep, instrStep, stepOf}
 use Rattle.machine.specs.Run.{final, goOn, stepsOf, judge, runOf}
-use Rattle.machine.specs.Trace.{traceOf, shownOf}
+use Rattle.machine.specs.Trace.{Shown, traceOf, shownOf}
 use Rattle.trace.specs.Seen.{seenIn}
 use Rattle.machine.specs.declared.State.{State}
 use Rattle.machine.specs.declared.Event.{Event}
@@ -105,9 +105,9 @@ pub a-line-for-each-step : (b : ℕ) (t : List ℕ) (s : State) (m k : List ℕ)
 a-line-for-each-step = run-counted
 
 -- .. and line i is the one that the step from what i steps left gives; z is any line.
-pub lines-of-the-steps : (b i : ℕ) (t : List ℕ) (s : State) (m k : List ℕ) (z : Line) → i < length (traceOf b 0 t s m k)
+pub lines-of-the-steps : (b i : ℕ) (t : List ℕ) (s : State) (m k : List ℕ) (z : Shown) → i < length (traceOf b 0 t s m k)
     → seenIn (stepOf (getD t i 0) (stepsOf i 0 t s m k .ended .state) (stepsOf i 0 t s m k .mem) (stepsOf i 0 t s m k .marks))
-    ≡ Seen.Step (getD (traceOf b 0 t s m k) i z)
+    ≡ Seen.Step (getD (traceOf b 0 t s m k) i z .line)
 lines-of-the-steps b i t s m k z h =
     let e : 0 + i ≡ i = omega arith in
     rw e at (nth-line b i 0 t s m k z h)

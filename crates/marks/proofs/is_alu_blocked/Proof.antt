@@ -1,4 +1,3 @@
-use borrow.Author.Tests.{lt-ltb, le-ltb, le-leb, lt-leb, eq-eqb, ne-eqb}
 use Rattle.marks.specs.Marks.{aluBlocked}
 use borrow.Author.Needs.{needs}
 use Rattle.marks.proofs.is_alu_blocked.Statement.{statement}

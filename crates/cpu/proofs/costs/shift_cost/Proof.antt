@@ -1,5 +1,5 @@
 use Rattle.cpu.specs.Cycles.{shiftCost}
-use borrow.Author.Tests.{lt-ltb, le-ltb, le-leb, lt-leb, eq-eqb, ne-eqb}
+use borrow.Author.Tests.{lt-ltb, le-ltb}
 use Rattle.cpu.proofs.costs.shift_cost.Statement.{statement}
 use Rattle.cpu.proofs.costs.shift_cost.Tie as tie
 

@@ -1,5 +1,4 @@
 use Rattle.cpu.specs.Exec.{branch}
-use borrow.Author.Tests.{lt-ltb, le-ltb, le-leb, lt-leb, eq-eqb, ne-eqb}
 use borrow.Author.Needs.{needs}
 use Rattle.cpu.proofs.effects.branch_by.Statement.{statement}
 use Rattle.cpu.proofs.effects.branch_by.Tie as tie

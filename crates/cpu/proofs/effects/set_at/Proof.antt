@@ -1,10 +1,6 @@
-use borrow.Author.Tests.{lt-ltb, le-ltb, le-leb, lt-leb, eq-eqb, ne-eqb}
 use borrow.Author.Needs.{needs}
 use Rattle.cpu.proofs.effects.set_at.Statement.{statement}
 use Rattle.cpu.proofs.effects.set_at.Tie as tie
-use Rattle.cpu.proofs.effects.set_at.Reads as reads
-use Rattle.cpu.proofs.effects.set_at.Lts as lts
-use Rattle.cpu.proofs.effects.go_on.Reads as go-on-reads
 
 go-on-requires : tie.Need-go-on-requires
 go-on-requires c κs = search needs

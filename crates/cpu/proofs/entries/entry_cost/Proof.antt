@@ -1,5 +1,4 @@
 use Rattle.cpu.specs.Cycles.{entryCost}
-use borrow.Author.Tests.{lt-ltb, le-ltb, le-leb, lt-leb, eq-eqb, ne-eqb}
 use borrow.Author.Needs.{needs}
 use Rattle.cpu.proofs.entries.entry_cost.Statement.{statement}
 use Rattle.cpu.proofs.entries.entry_cost.Tie as tie

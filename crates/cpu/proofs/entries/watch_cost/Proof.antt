@@ -2,7 +2,7 @@ use mathlib.Core.Path.{sym, _∙_}
 use Rattle.cpu.proofs.Laws.{unwatched}
 use Rattle.cpu.specs.Entries.{watchEntry}
 use Rattle.cpu.specs.Cycles.{entryCost}
-use borrow.Author.Tests.{lt-ltb, le-ltb, le-leb, lt-leb, eq-eqb, ne-eqb}
+use borrow.Author.Tests.{lt-ltb, le-ltb}
 use borrow.Author.Needs.{needs}
 use Rattle.cpu.proofs.entries.watch_cost.Statement.{statement}
 use Rattle.cpu.proofs.entries.watch_cost.Tie as tie

@@ -1,6 +1,5 @@
 use Rattle.cpu.specs.Exec.{aluOf, carried, makes, exec}
 use Rattle.cpu.specs.Cycles.{aluCost, costOf}
-use borrow.Author.Tests.{lt-ltb, le-ltb, le-leb, lt-leb, eq-eqb, ne-eqb}
 use borrow.Author.Needs.{needs}
 use Rattle.cpu.proofs.values.alu.Statement.{statement}
 use Rattle.cpu.proofs.values.alu.Tie as tie

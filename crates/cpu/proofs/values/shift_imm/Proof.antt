@@ -1,6 +1,5 @@
 use Rattle.cpu.specs.Exec.{shiftOf, makes, exec}
 use Rattle.cpu.specs.Cycles.{shiftImmCost, costOf}
-use borrow.Author.Tests.{lt-ltb, le-ltb, le-leb, lt-leb, eq-eqb, ne-eqb}
 use borrow.Author.Needs.{needs}
 use Rattle.cpu.proofs.values.shift_imm.Statement.{statement}
 use Rattle.cpu.proofs.values.shift_imm.Tie as tie
