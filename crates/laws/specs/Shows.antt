@@ -58,6 +58,13 @@ pub data Shows (t : ℕ) (s : State) (m k : List ℕ) (d : Done) (x : Line) : Ty
       → d .control ≡ passed (on (s .control .psw) 4) 4 (entered Entry.DataError (onward 2 (s .control)))
       → Shows t s m k d x
 
+-- what that step cost in cycles (document 02, ticket 6)
+abbrev pub costIn : {t : ℕ} {s : State} {m k : List ℕ} {d : Done} {x : Line} → Shows t s m k d x → ℕ
+costIn {x = x} (by-choice c a e) = entryCost (x .entry)
+costIn {s = s} {m = m} {x = x} (by-instruction i c f o a e) = effectIn i s m .cost + entryCost (x .entry)
+costIn (by-fetch c f n a e) = 4
+costIn (by-data i c f o n a e) = 4
+
 -- an entry by its vector and its bits, from control part c to n: IPC, IP and BIP, the program counter, and what its kind sets
 pub record Entered (low : ℕ) (c n : Control) : Type 0 where
   pub vector : n .pc ≡ vector low c .0
