@@ -36,7 +36,8 @@ extern "C" {
 #define MANIK_AT_PENDING 90  /* the flag "timer pending" */
                              /* 91: zero */
 #define MANIK_AT_SFR1 92     /* SFR 1 to 10, a word each: RA, IPC, TIMER, IBASE, USREG, HWDBG, BP0, BP1, WP0, WP1 */
-                             /* 132 to 159: zero */
+#define MANIK_AT_CYCLES 132  /* the cycle count, modulo 2^32, a word */
+                             /* 136 to 159: zero */
 
 /* What manik_run returns: the rules' reply numbers, and 0. */
 enum manik_reply {
@@ -72,7 +73,7 @@ enum manik_reply {
  *             nothing. The record is one that the next call takes.
  *
  * There is no 11: an access outside memory does not end a run. It is a bus error, an entry at IBASE with low byte 16, and its
- * step is completed.
+ * step is completed. Each completed step adds its cost to the cycle count of the record.
  *
  * The caller sees to what no contract can say in C: every pointer is valid for its length and not null, even where the length
  * is 0; `steps` is aligned; state, mem, marks and *steps overlap neither each other nor the tape.

@@ -50,7 +50,8 @@ impl Machine for Library {
         let Library { record, memory, marks } = self;
         let budget = tape.len() as u64;
         let outcome = manik::run_record(record, memory, marks, tape, budget);
-        assert_eq!(outcome, Ok(manik::Outcome { reply: manik::Reply::BudgetUsed, steps: budget }));
+        let outcome = outcome.map(|outcome| (outcome.reply, outcome.steps));
+        assert_eq!(outcome, Ok((manik::Reply::BudgetUsed, budget)));
     }
 
     fn contents(&self) -> (Vec<u8>, &[u8], &[u8]) {

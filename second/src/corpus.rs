@@ -58,6 +58,8 @@ pub struct Promise {
     pub steps: u64,
     /// The bus error of the last completed step, if it makes one.
     pub bus_error: Option<Access>,
+    /// What all the steps cost, where that is said.
+    pub cycles: Option<u32>,
 }
 
 impl Case {
@@ -95,7 +97,7 @@ impl Case {
 
     /// The line that answers the case, with its newline.
     pub fn answer(&self) -> String {
-        let (Outcome { reply, steps }, after) = self.run();
+        let (Outcome { reply, steps, .. }, after) = self.run();
         let record: String =
             record::write(&after.state).iter().map(|byte| format!("{byte:02x}")).collect();
         let (memory, marks) = (digest(&after.memory), digest(&after.marks));

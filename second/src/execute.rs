@@ -2,6 +2,7 @@
 //!
 //! Every stop is found before anything changes, so a stopping step changes nothing.
 
+use crate::cost;
 use crate::isa::{data_address, decode, jump_target, needs_second};
 use crate::isa::{AluOp, CompareImmediateOp, CompareOp, ConditionalOp, Instr, MultShiftOp, When};
 use crate::reply::Reply;
@@ -10,7 +11,8 @@ use crate::word::{self, sign_extend, Width};
 
 /// What an instruction asks of the rest of its step.
 pub(crate) enum Effect {
-    Nothing,
+    /// Nothing besides so many cycles.
+    Cost(u32),
     /// It loaded or stored at this address, which the watchpoints are compared with.
     Data(u32),
     /// A half of it is outside memory, and nothing is done.
@@ -69,40 +71,39 @@ fn fetch(pc: u32, memory: &Memory) -> Result<Instr, Unfetched> {
 #[inline]
 fn execute(instr: Instr, state: &mut State, memory: &mut Memory) -> Result<Effect, Reply> {
     let mut next = state.pc.wrapping_add(instr.size());
-    let mut effect = Effect::Nothing;
+    let mut effect = Effect::Cost(cost::ALU);
     match instr {
         Instr::Alu { op, rd, rb } => alu(state, op, rd, rb),
         Instr::Andi { rd, uimm8 } => state.change(rd, |value| value & uimm8),
         Instr::Addi { rd, simm8 } => state.change(rd, |value| value.wrapping_add(simm8)),
         Instr::Movi { rd, simm8 } => state.set(rd, simm8, false),
-        Instr::MultShift { op, rd, rb } => mult_shift(state, op, rd, rb),
-        Instr::MultShiftImmediate { op, rd, uimm4 } => mult_shift_immediate(state, op, rd, uimm4),
+        Instr::MultShift { op, rd, rb } => effect = by_register(state, op, rd, rb)?,
+        Instr::MultShiftImmediate { op, rd, uimm4 } => effect = by_immediate(state, op, rd, uimm4),
         Instr::Compare { op, rd, rb } => compare(state, op, rd, rb),
         Instr::CompareImmediate { op, rd, simm4 } => compare_immediate(state, op, rd, simm4),
         Instr::Conditional { tf, op, rd, rb } => conditional(state, tf, op, rd, rb),
         Instr::ConditionalAddImmediate { tf, rd, simm4 } => conditional_add(state, tf, rd, simm4),
         Instr::Load { width, rd, uimm4, rb } => {
-            let address = data_address(state.unmarked(rb)?, uimm4, width);
-            effect = load(state, memory, rd, address, width);
+            effect = load(state, memory, rd, state.unmarked(rb)?, uimm4, width);
         }
         Instr::Store { width, rd, uimm4, rb } => {
-            let address = data_address(state.unmarked(rb)?, uimm4, width);
-            effect = store(state, memory, rd, address, width);
+            effect = store(state, memory, rd, state.unmarked(rb)?, uimm4, width);
         }
         Instr::Ldrpc { rd, uimm8 } => {
-            let address = data_address(state.pc, uimm8, Width::Word);
-            effect = load(state, memory, rd, address, Width::Word);
+            effect = load(state, memory, rd, state.pc, uimm8, Width::Word);
         }
-        Instr::Mfsfr { rd, sfr } => read_sfr(state, rd, sfr),
+        Instr::Mfsfr { rd, sfr } => effect = read_sfr(state, rd, sfr),
         Instr::Mtsfr { sfr, rb } => effect = write_sfr(state, sfr, state.unmarked(rb)?),
         Instr::Swint { code } => effect = Effect::Swint(code),
-        Instr::Jr { rb } => next = register_target(state.unmarked(rb)?),
-        Instr::Jrl { rb } => next = link(state, register_target(state.unmarked(rb)?)),
-        Instr::Jsfr { sfr } => next = jump_to_sfr(state, sfr)?,
+        Instr::Jr { rb } => effect = jump(&mut next, register_target(state.unmarked(rb)?)),
+        Instr::Jrl { rb } => effect = link(state, &mut next, register_target(state.unmarked(rb)?)),
+        Instr::Jsfr { sfr } => effect = jump_to_sfr(state, &mut next, sfr)?,
         Instr::ShortJump { when, displacement } | Instr::LongJump { when, displacement } => {
-            next = if taken(state, when)? { jump_target(state.pc, displacement) } else { next };
+            effect = branch(state, &mut next, when, displacement)?;
         }
-        Instr::Jl { displacement } => next = link(state, jump_target(state.pc, displacement)),
+        Instr::Jl { displacement } => {
+            effect = link(state, &mut next, jump_target(state.pc, displacement));
+        }
     }
     state.pc = next;
     Ok(effect)
@@ -131,17 +132,23 @@ fn alu(state: &mut State, op: AluOp, rd: u32, rb: u32) {
     }
 }
 
-/// The multiply and the shifts by a register.
+/// The multiply and the shifts by a register. "The amount now shows: a register shift with its
+/// amount register marked becomes stop 14" (document 02, ticket 6).
 #[inline]
-fn mult_shift(state: &mut State, op: MultShiftOp, rd: u32, rb: u32) {
+fn by_register(state: &mut State, op: MultShiftOp, rd: u32, rb: u32) -> Result<Effect, Reply> {
     let (d, b) = (state.register(rd), state.register(rb));
+    if b.marked && op != MultShiftOp::Mult {
+        return Err(Reply::OperandMarked);
+    }
     state.set(rd, mult_or_shift(op, d.value, b.value), d.marked | b.marked);
+    Ok(Effect::Cost(cost::mult_shift(op, b.value)))
 }
 
 /// The multiply and the shifts by UIMM4.
 #[inline]
-fn mult_shift_immediate(state: &mut State, op: MultShiftOp, rd: u32, uimm4: u32) {
+fn by_immediate(state: &mut State, op: MultShiftOp, rd: u32, uimm4: u32) -> Effect {
     state.change(rd, |value| mult_or_shift(op, value, uimm4));
+    Effect::Cost(cost::mult_shift(op, uimm4))
 }
 
 /// `x` multiplied or shifted by `y`.
@@ -203,9 +210,17 @@ fn conditional_add(state: &mut State, tf: bool, rd: u32, simm4: u32) {
     state.set_if(tf, rd, Register { value: value.wrapping_add(simm4), marked });
 }
 
-/// Loads Rd from an aligned address.
+/// Loads Rd from so many units behind a base.
 #[inline]
-fn load(state: &mut State, memory: &Memory, rd: u32, address: u32, width: Width) -> Effect {
+fn load(
+    state: &mut State,
+    memory: &Memory,
+    rd: u32,
+    base: u32,
+    units: u32,
+    width: Width,
+) -> Effect {
+    let address = data_address(base, units, width);
     let Some(Register { value, marked }) = memory.load(address, width) else {
         return Effect::DataOutside(address);
     };
@@ -213,9 +228,17 @@ fn load(state: &mut State, memory: &Memory, rd: u32, address: u32, width: Width)
     Effect::Data(address)
 }
 
-/// Stores Rd at an aligned address.
+/// Stores Rd so many units behind a base.
 #[inline]
-fn store(state: &State, memory: &mut Memory, rd: u32, address: u32, width: Width) -> Effect {
+fn store(
+    state: &State,
+    memory: &mut Memory,
+    rd: u32,
+    base: u32,
+    units: u32,
+    width: Width,
+) -> Effect {
+    let address = data_address(base, units, width);
     if memory.store(address, width, state.register(rd)) {
         Effect::Data(address)
     } else {
@@ -225,9 +248,10 @@ fn store(state: &State, memory: &mut Memory, rd: u32, address: u32, width: Width
 
 /// mfsfr. "mfsfr psw is marked if TF or CY is; other mfsfr results are not."
 #[inline]
-fn read_sfr(state: &mut State, rd: u32, number: u32) {
+fn read_sfr(state: &mut State, rd: u32, number: u32) -> Effect {
     let marked = number == sfr::PSW && state.flag_marked();
     state.set(rd, state.sfr(number), marked);
+    Effect::Cost(cost::SFR)
 }
 
 /// The bits that mtsfr psw keeps: 12 and 26 to 31. "mtsfr psw may now write bits 14 and 15"
@@ -256,7 +280,7 @@ fn write_sfr(state: &mut State, number: u32, value: u32) -> Effect {
         sfr::WP1 => state.wp1 = value,
         _ => panic!("SFR 11 and above are none"),
     }
-    Effect::Nothing
+    Effect::Cost(cost::SFR)
 }
 
 /// "Writing TIMER is ignored if IP is 1 and TI is 0; an accepted write clears pending and takes
@@ -264,17 +288,17 @@ fn write_sfr(state: &mut State, number: u32, value: u32) -> Effect {
 #[inline]
 fn write_timer(state: &mut State, value: u32) -> Effect {
     if state.psw & (psw::IP | psw::TI) == psw::IP {
-        return Effect::Nothing;
+        return Effect::Cost(cost::SFR);
     }
     state.timer = value;
     state.pending = false;
     Effect::TimerWritten
 }
 
-/// jsfr: its target. On jsfr of IPC "BIP goes to IP, and BIP becomes 0" (document 02, ticket 3, and
+/// jsfr. On jsfr of IPC "BIP goes to IP, and BIP becomes 0" (document 02, ticket 3, and
 /// the guide's interrupt chapter; document 01 and Appendix B only clear IP).
 #[inline]
-fn jump_to_sfr(state: &mut State, number: u32) -> Result<u32, Reply> {
+fn jump_to_sfr(state: &mut State, next: &mut u32, number: u32) -> Result<Effect, Reply> {
     if number == sfr::PSW && state.flag_marked() {
         return Err(Reply::OperandMarked);
     }
@@ -285,14 +309,21 @@ fn jump_to_sfr(state: &mut State, number: u32) -> Result<u32, Reply> {
             state.psw |= psw::IP;
         }
     }
-    Ok(register_target(state.sfr(number)))
+    Ok(jump(next, register_target(state.sfr(number))))
 }
 
-/// "jl and jrl set RA to the program counter + 4"; the target is passed on.
+/// "jl and jrl set RA to the program counter + 4", and go to their target.
 #[inline]
-fn link(state: &mut State, target: u32) -> u32 {
+fn link(state: &mut State, next: &mut u32, target: u32) -> Effect {
     state.ra = state.pc.wrapping_add(4);
-    target
+    jump(next, target)
+}
+
+/// A jump that is taken.
+#[inline]
+const fn jump(next: &mut u32, target: u32) -> Effect {
+    *next = target;
+    Effect::Cost(cost::TAKEN)
 }
 
 /// "Register jumps, jsfr among them, drop bit 0."
@@ -301,14 +332,19 @@ const fn register_target(value: u32) -> u32 {
     value & !1
 }
 
-/// Whether a relative jump is taken; a conditional one stops if TF is marked.
+/// A relative jump, taken or not; a conditional one stops if TF is marked.
 #[inline]
-fn taken(state: &State, when: When) -> Result<bool, Reply> {
-    match when {
-        When::Always => Ok(true),
-        _ if state.tf_marked => Err(Reply::OperandMarked),
-        When::False => Ok(!state.tf()),
-        When::True => Ok(state.tf()),
+fn branch(state: &State, next: &mut u32, when: When, displacement: u32) -> Result<Effect, Reply> {
+    let taken = match when {
+        When::Always => true,
+        _ if state.tf_marked => return Err(Reply::OperandMarked),
+        When::False => !state.tf(),
+        When::True => state.tf(),
+    };
+    if taken {
+        Ok(jump(next, jump_target(state.pc, displacement)))
+    } else {
+        Ok(Effect::Cost(cost::NOT_TAKEN))
     }
 }
 

@@ -25,6 +25,9 @@ pub mod state;
 /// Replies of a run.
 pub mod reply;
 
+/// What a step costs in cycles.
+pub mod cost;
+
 mod execute;
 
 /// One step: entries, breakpoints, watchpoints and the timer.

@@ -2,8 +2,7 @@
 //!
 //! ```text
 //! 0 r0..r15 · 64 marks of r0..r15 · 80 pc · 84 PSW · 88 mark of TF · 89 mark of CY · 90 pending ·
-//! 91 zero · 92 sfr1..sfr10 · 132 cycles, armed and counting: zero as long as nothing has them ·
-//! 138..159 zero
+//! 91 zero · 92 sfr1..sfr10 · 132 cycles · 136..159 zero
 //! ```
 
 use crate::state::{Register, State};
@@ -22,7 +21,8 @@ mod place {
     pub const PENDING: usize = 90;
     pub const ZERO: usize = 91;
     pub const SFR_1: usize = 92;
-    pub const ZEROS: usize = 132;
+    pub const CYCLES: usize = 132;
+    pub const ZEROS: usize = 136;
 }
 
 /// The state of a record. None if it has another length, a mark or flag byte above 1, or a byte
@@ -45,6 +45,7 @@ pub fn read(record: &[u8]) -> Option<State> {
         tf_marked: flag(record, place::TF_MARK)?,
         cy_marked: flag(record, place::CY_MARK)?,
         pending: flag(record, place::PENDING)?,
+        cycles: word(record, place::CYCLES),
         ra: sfr(1),
         ipc: sfr(2),
         timer: sfr(3),
@@ -73,6 +74,7 @@ pub fn write(state: &State) -> [u8; LENGTH] {
     for number in 1..=10 {
         put(&mut record, place::SFR_1 + 4 * (number as usize - 1), state.sfr(number));
     }
+    put(&mut record, place::CYCLES, state.cycles);
     record
 }
 

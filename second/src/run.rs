@@ -16,6 +16,8 @@ pub struct Outcome {
     pub reply: Reply,
     /// The number of completed steps.
     pub steps: u64,
+    /// The cycle count of the state: "the result repeats it" (document 02, ticket 6).
+    pub cycles: u32,
 }
 
 /// Runs over the lent memory and marks, at most `budget` steps, one tape byte for each.
@@ -40,15 +42,15 @@ pub fn run_observed(
 ) -> Outcome {
     let tape = match accepted_tape(state, memory, marks, tape, budget) {
         Ok(tape) => tape,
-        Err(reply) => return Outcome { reply, steps: 0 },
+        Err(reply) => return Outcome { reply, steps: 0, cycles: state.cycles },
     };
     for (steps, &lines) in tape.iter().enumerate() {
         match step(state, memory, marks, lines) {
             Ok(step) => observe(step),
-            Err(reply) => return Outcome { reply, steps: steps as u64 },
+            Err(reply) => return Outcome { reply, steps: steps as u64, cycles: state.cycles },
         }
     }
-    Outcome { reply: Reply::BudgetUsed, steps: budget }
+    Outcome { reply: Reply::BudgetUsed, steps: budget, cycles: state.cycles }
 }
 
 /// The first `budget` bytes of the tape, or the first refusal.

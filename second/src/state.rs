@@ -108,10 +108,12 @@ pub struct State {
     pub wp1: u32,
     /// Timer pending.
     pub pending: bool,
+    /// "a cycle count modulo 2^32" (document 02, ticket 6). It is no SFR: no instruction reads it.
+    pub cycles: u32,
 }
 
 impl State {
-    /// "Fresh: all zero and unmarked, HWDBG 3."
+    /// "Fresh: all zero and unmarked, HWDBG 3."; the cycle count is "0 when fresh".
     pub const fn fresh() -> State {
         State {
             registers: [Register { value: 0, marked: false }; 16],
@@ -130,6 +132,7 @@ impl State {
             wp0: 0,
             wp1: 0,
             pending: false,
+            cycles: 0,
         }
     }
 

@@ -1,6 +1,8 @@
 //! One step (document 01): an interrupt, else a breakpoint, else one instruction with its
-//! watchpoint or its bus error (document 02, ticket 5); then the timer's fall.
+//! watchpoint or its bus error (document 02, ticket 5); then its cost is counted, and TIMER falls by
+//! it (ticket 6).
 
+use crate::cost;
 use crate::execute::{instruction, Effect};
 use crate::reply::Reply;
 use crate::state::{hwdbg, psw, State};
@@ -66,31 +68,43 @@ pub fn step(
 ) -> Result<Step, Reply> {
     let te_at_its_start = state.psw & psw::TE != 0;
     let mut step = Step { pc: state.pc, entry: None, address: None };
-    if let Some(interrupt) = permitted_interrupt(state, lines) {
-        step.entry = Some(enter_interrupt(state, interrupt));
+    let cost = if let Some(interrupt) = permitted_interrupt(state, lines) {
+        entered(&mut step, enter_interrupt(state, interrupt))
     } else if breakpoint_hit(state) {
-        step.entry = Some(enter_debug(state, hwdbg::BP_HIT));
+        entered(&mut step, enter_debug(state, hwdbg::BP_HIT))
     } else {
         match instruction(state, memory, marks)? {
-            Effect::Nothing => {}
+            Effect::Cost(cost) => cost,
             Effect::Data(address) => {
                 step.address = Some(address);
-                step.entry = watch(state, address);
+                let hit = watch(state, address);
+                hit.map_or(cost::ACCESS, |entry| entered(&mut step, entry))
             }
-            Effect::FetchOutside => step.entry = Some(enter_bus_error(state, Access::Fetch)),
+            Effect::FetchOutside => entered(&mut step, enter_bus_error(state, Access::Fetch)),
             Effect::DataOutside(address) => {
                 step.address = Some(address);
-                step.entry = Some(enter_bus_error(state, Access::Data));
+                entered(&mut step, enter_bus_error(state, Access::Data))
             }
-            Effect::Swint(code) => step.entry = Some(enter_swint(state, code)),
-            // "takes the place of that step's fall"
-            Effect::TimerWritten => return Ok(step),
+            Effect::Swint(code) => entered(&mut step, enter_swint(state, code)),
+            Effect::TimerWritten => {
+                // "takes the place of that step's fall"
+                state.cycles = state.cycles.wrapping_add(cost::SFR);
+                return Ok(step);
+            }
         }
-    }
+    };
+    state.cycles = state.cycles.wrapping_add(cost);
     if te_at_its_start {
-        fall(state);
+        fall(state, cost);
     }
     Ok(step)
+}
+
+/// Notes the entry that a step made, and answers the step's cost.
+#[inline]
+fn entered(step: &mut Step, entry: Entry) -> u32 {
+    step.entry = Some(entry);
+    cost::entry(entry)
 }
 
 /// An interrupt that isn't asked for by an instruction.
@@ -195,11 +209,12 @@ fn enter_bus_error(state: &mut State, access: Access) -> Entry {
     enter(state, Entry::BusError(access))
 }
 
-/// "If ... TIMER isn't 0, TIMER falls by 1; reaching 0 sets pending. ... Zero stays zero."
+/// "TIMER falls by the step's cost, to no less than 0" (document 02, ticket 6); "reaching 0 sets
+/// pending. ... Zero stays zero."
 #[inline]
-fn fall(state: &mut State) {
+fn fall(state: &mut State, cost: u32) {
     if state.timer != 0 {
-        state.timer -= 1;
+        state.timer = state.timer.saturating_sub(cost);
         if state.timer == 0 {
             state.pending = true;
         }

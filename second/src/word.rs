@@ -55,7 +55,7 @@ pub const fn mult(x: u32, y: u32) -> u32 {
 
 /// The low 6 bits of an amount: "A shift by register uses its low 6 bits" (document 01).
 #[inline]
-const fn shift_amount(amount: u32) -> u32 {
+pub const fn shift_amount(amount: u32) -> u32 {
     amount & 0x3f
 }
 

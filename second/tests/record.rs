@@ -29,6 +29,7 @@ fn numbered() -> State {
         wp0: 0x4009_0000,
         wp1: 0x400a_0000,
         pending: true,
+        cycles: 0x500b_0000,
     }
 }
 
@@ -44,7 +45,8 @@ fn numbered_bytes() -> Vec<u8> {
     for n in 1..=10 {
         bytes.extend([0x40, n, 0, 0]);
     }
-    bytes.extend([0; 28]);
+    bytes.extend([0x50, 0x0b, 0, 0]);
+    bytes.extend([0; 24]);
     bytes
 }
 
@@ -71,7 +73,8 @@ fn what_is_read_is_written_back_and_the_other_way_round() {
     let mut generator = Generator::new(3);
     for _ in 0..2_000 {
         let mut record = [0_u8; LENGTH];
-        let word_places = (0..16).map(|n| 4 * n).chain([80, 84]).chain((0..10).map(|n| 92 + 4 * n));
+        // SFR 1 to 10, and the cycles behind them.
+        let word_places = (0..16).map(|n| 4 * n).chain([80, 84]).chain((0..11).map(|n| 92 + 4 * n));
         for place in word_places {
             record[place..place + 4].copy_from_slice(&generator.word().to_be_bytes());
         }
@@ -104,7 +107,7 @@ fn a_mark_or_flag_byte_above_1_is_refused() {
 
 #[test]
 fn a_byte_that_is_not_zero_where_zero_stands_is_refused() {
-    for place in [91].into_iter().chain(132..160) {
+    for place in [91].into_iter().chain(136..160) {
         for byte in [1, 128, 255] {
             let mut record = write(&State::fresh());
             record[place] = byte;

@@ -16,13 +16,13 @@ use Rattle.cpu.specs.declared.Control.{Control}
 use Rattle.marks.specs.declared.Flags.{Flags}
 use Rattle.word.specs.Bytes.{anyAbove}
 use Rattle.machine.specs.declared.State.{State}
-use Rattle.abi.specs.Record.{each, controlAt, stateAt, bytes, laid, words, flags, zeros, sfrsOf, controlPart, recordOf, within, shaped, Bytes}
+use Rattle.abi.specs.Record.{each, controlAt, stateAt, bytes, laid, words, flags, zeros, laterWords, controlPart, recordOf, within, shaped, Bytes}
 use Rattle.abi.proofs.Laws.{length-laid, sets-append, sets-whole, each-drop, each-laid, each-map, each-byte, laid-each, flags-back, bools-back, zeros-back, cut}
 
--- ---- a state from its registers, their marks, pc and PSW, the three flags, and SFR 1 to 10
+-- ---- a state from its registers, their marks, pc and PSW, the three flags, and SFR 1 to 10 and the cycle count
 
 abbrev pub build : List ℕ → List Bool → List ℕ → List Bool → List ℕ → State
-build regs marks two three ten = record {
+build regs marks two three later = record {
   regs = regs;
   marks = marks;
   flags = record { tf = getD three 0 false; cy = getD three 1 false };
@@ -30,16 +30,17 @@ build regs marks two three ten = record {
     pc = getD two 0 0;
     psw = getD two 1 0;
     pending = getD three 2 false;
-    ra = getD ten 0 0;
-    ipc = getD ten 1 0;
-    timer = getD ten 2 0;
-    ibase = getD ten 3 0;
-    usreg = getD ten 4 0;
-    hwdbg = getD ten 5 0;
-    bp0 = getD ten 6 0;
-    bp1 = getD ten 7 0;
-    wp0 = getD ten 8 0;
-    wp1 = getD ten 9 0;
+    ra = getD later 0 0;
+    ipc = getD later 1 0;
+    timer = getD later 2 0;
+    ibase = getD later 3 0;
+    usreg = getD later 4 0;
+    hwdbg = getD later 5 0;
+    bp0 = getD later 6 0;
+    bp1 = getD later 7 0;
+    wp0 = getD later 8 0;
+    wp1 = getD later 9 0;
+    cycles = getD later 10 0;
   };
 }
 
@@ -51,7 +52,7 @@ abbrev pub readFlags : List ℕ → ℕ → ℕ → List Bool
 readFlags r n a = each (λ (i : ℕ). ltb 0 (load 1 r i)) 1 n a
 
 pub in-parts : (r : List ℕ) → length r ≡ 160
-    → stateAt r ≡ build (readWords r 16 0) (readFlags r 16 64) (readWords r 2 80) (readFlags r 3 88) (readWords r 10 92)
+    → stateAt r ≡ build (readWords r 16 0) (readFlags r 16 64) (readWords r 2 80) (readFlags r 3 88) (readWords r 11 92)
 unfolding stateAt controlAt each
 in-parts r h = rw h
 
@@ -110,7 +111,7 @@ pub record Shape (r : List ℕ) : Type 0 where
   pub marks : within 1 64 16 r ≡ true
   pub flags : within 1 88 3 r ≡ true
   pub gap : within 0 91 1 r ≡ true
-  pub rest : within 0 132 28 r ≡ true
+  pub rest : within 0 136 24 r ≡ true
 
 and-on : (a b : Bool) → (a && b) ≡ true → (a ≡ true) × (b ≡ true)
 and-on true b e = (refl, e)
@@ -162,11 +163,11 @@ two s = s .control .pc ∷ s .control .psw ∷ []
 abbrev pub three : State → List Bool
 three s = s .flags .tf ∷ s .flags .cy ∷ s .control .pending ∷ []
 
-abbrev pub from132 : List ℕ
-from132 = zeros 28 ++ []
+abbrev pub from136 : List ℕ
+from136 = zeros 24 ++ []
 
 abbrev pub from92 : State → List ℕ
-from92 s = words (sfrsOf (s .control)) ++ from132
+from92 s = words (laterWords (s .control)) ++ from136
 
 abbrev pub from88 : State → List ℕ
 from88 s = flags (three s) ++ (zeros 1 ++ from92 s)
@@ -184,7 +185,7 @@ pub record Rests (s : State) : Type 0 where
   pub at88 : drop 88 (recordOf s) ≡ from88 s
   pub at91 : drop 91 (recordOf s) ≡ zeros 1 ++ from92 s
   pub at92 : drop 92 (recordOf s) ≡ from92 s
-  pub at132 : drop 132 (recordOf s) ≡ from132
+  pub at136 : drop 136 (recordOf s) ≡ from136
 
 -- where x stands at a, what follows it stands n bytes later
 next : (r x y : List ℕ) (a n : ℕ) → drop a r ≡ x ++ y → length x ≡ n → drop (a + n) r ≡ y
@@ -209,7 +210,7 @@ rests s n l =
       at88 = p88;
       at91 = p91;
       at92 = p92;
-      at132 = next r (words (sfrsOf (s .control))) from132 92 40 p92 (length-laid 4 (sfrsOf (s .control)));
+      at136 = next r (words (laterWords (s .control))) from136 92 44 p92 (length-laid 4 (laterWords (s .control)));
     }
 
 -- ---- a record written part by part, as the code does: a zero is a flag that is not set
@@ -222,19 +223,19 @@ pub control-written : (m : List ℕ) (f : Flags) (c : Control)
     (sets
     (sets (sets m 80 (words (c .pc ∷ c .psw ∷ []))) 88 (flags (f .tf ∷ f .cy ∷ c .pending ∷ false ∷ [])))
     92
-    (words (sfrsOf c)))
-    132
-    (flags (replicate 28 false))
+    (words (laterWords c)))
+    136
+    (flags (replicate 24 false))
     ≡ sets m 80 (controlPart f c)
 unfolding controlPart flatten laid bytes
 control-written m f c =
     let t : List ℕ = words (c .pc ∷ c .psw ∷ []) in
     let g : List ℕ = flags (f .tf ∷ f .cy ∷ c .pending ∷ false ∷ []) in
-    let x : List ℕ = words (sfrsOf c) in
-    let z : List ℕ = flags (replicate 28 false) in
+    let x : List ℕ = words (laterWords c) in
+    let z : List ℕ = flags (replicate 24 false) in
     let m1 : List ℕ = sets m 80 t in
     let m2 : List ℕ = sets m1 88 g in
-    sym (after m t (g ++ (x ++ z)) 80 8 refl ∙ after m1 g (x ++ z) 88 4 refl ∙ after m2 x z 92 40 refl)
+    sym (after m t (g ++ (x ++ z)) 80 8 refl ∙ after m1 g (x ++ z) 88 4 refl ∙ after m2 x z 92 44 refl)
 
 pub written : (m : List ℕ) (s : State) → length m ≡ 160 → length (s .regs) ≡ 16 → length (s .marks) ≡ 16
     → sets (sets (sets m 0 (words (s .regs))) 64 (flags (s .marks))) 80 (controlPart (s .flags) (s .control)) ≡ recordOf s

@@ -12,10 +12,10 @@ use Rattle.machine.specs.declared.State.{State}
 use Rattle.instruction.specs.declared.Reply.{Reply}
 use Rattle.machine.specs.declared.Judged.{Judged}
 use Rattle.laws.proofs.Theorems.{refusal-changes-nothing}
-use Rattle.abi.specs.Record.{each, stateAt, flags, zeros, sfrsOf, controlPart, recordOf, shaped, InRange, Bytes}
+use Rattle.abi.specs.Record.{each, stateAt, flags, zeros, laterWords, controlPart, recordOf, shaped, InRange, Bytes}
 use Rattle.abi.specs.Call.{notRecord, called}
 use Rattle.abi.proofs.Sixteen.{sixteen-at, run-sixteen}
-use Rattle.abi.proofs.Parts.{build, readWords, readFlags, in-parts, length-record, words-from, flags-from, words-part, flags-part, zeros-part, joined, in-shape, of-shape, flags-within, zeros-within, two, three, from132, from92, from88, from80, from64, rests}
+use Rattle.abi.proofs.Parts.{build, readWords, readFlags, in-parts, length-record, words-from, flags-from, words-part, flags-part, zeros-part, joined, in-shape, of-shape, flags-within, zeros-within, two, three, from136, from92, from88, from80, from64, rests}
 
 -- 1. A record has 160 bytes.
 pub record-length : (s : State) → length (s .regs) ≡ 16 → length (s .marks) ≡ 16 → length (recordOf s) ≡ 160
@@ -32,13 +32,13 @@ read-back s h =
     let r : List ℕ = recordOf s in
     let p = rests s (h .regs) (h .marks) in
     in-parts r (record-length s (h .regs) (h .marks))
-    ∙ ap₂ (λ (x : List ℕ) (y : List Bool). build x y (readWords r 2 80) (readFlags r 3 88) (readWords r 10 92))
+    ∙ ap₂ (λ (x : List ℕ) (y : List Bool). build x y (readWords r 2 80) (readFlags r 3 88) (readWords r 11 92))
     (words-from 16 r 0 (s .regs) (from64 s) (p .at0) (h .regs) (h .values))
     (flags-from 16 r 64 (s .marks) (from80 s) (p .at64) (h .marks))
-    ∙ ap₂ (λ (x : List ℕ) (y : List Bool). build (s .regs) (s .marks) x y (readWords r 10 92))
+    ∙ ap₂ (λ (x : List ℕ) (y : List Bool). build (s .regs) (s .marks) x y (readWords r 11 92))
     (words-from 2 r 80 (two s) (from88 s) (p .at80) refl (first-words s h))
     (flags-from 3 r 88 (three s) (zeros 1 ++ from92 s) (p .at88) refl)
-    ∙ ap (build (s .regs) (s .marks) (two s) (three s)) (words-from 10 r 92 (sfrsOf (s .control)) from132 (p .at92) refl (h .sfrs))
+    ∙ ap (build (s .regs) (s .marks) (two s) (three s)) (words-from 11 r 92 (laterWords (s .control)) from136 (p .at92) refl (h .later))
 
 -- 3. What was read is written back: for every record in shape, writing the state that it holds gives it.
 pub write-back : (r : List ℕ) → Bytes r → shaped r ≡ true → recordOf (stateAt r) ≡ r
@@ -53,8 +53,8 @@ write-back r b e =
     (joined 80 8 r _ _ (words-part 2 r 80 b (omega arith))
     (joined 88 3 r _ _ (flags-part 3 r 88 b (omega arith) (h .flags))
     (joined 91 1 r _ _ (zeros-part 1 r 91 (omega arith) (h .gap))
-    (joined 92 40 r _ _ (words-part 10 r 92 b (omega arith))
-    (joined 132 28 r _ _ (zeros-part 28 r 132 (omega arith) (h .rest)) (sym end)))))))
+    (joined 92 44 r _ _ (words-part 11 r 92 b (omega arith))
+    (joined 136 24 r _ _ (zeros-part 24 r 136 (omega arith) (h .rest)) (sym end)))))))
 
 -- 4. The record of every state of sixteen registers and marks is in shape.
 pub record-shaped : (s : State) → length (s .regs) ≡ 16 → length (s .marks) ≡ 16 → shaped (recordOf s) ≡ true
@@ -67,7 +67,7 @@ record-shaped s n l =
       marks = flags-within 16 r 64 (s .marks) (from80 s) (p .at64) l;
       flags = flags-within 3 r 88 (three s) (zeros 1 ++ from92 s) (p .at88) refl;
       gap = zeros-within 1 r 91 (from92 s) (p .at91);
-      rest = zeros-within 28 r 132 [] (p .at132);
+      rest = zeros-within 24 r 136 [] (p .at136);
     })
 
 -- 5. A call that was given a record leaves one: it can go into the next call.

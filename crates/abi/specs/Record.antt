@@ -42,6 +42,7 @@ controlAt r = record {
   bp1 = wordAt r 120;
   wp0 = wordAt r 124;
   wp1 = wordAt r 128;
+  cycles = wordAt r 132;
 }
 
 unfoldable pub stateAt : List ℕ → State
@@ -73,9 +74,9 @@ flags l = laid 1 (map num l)
 abbrev pub zeros : ℕ → List ℕ
 zeros n = replicate n 0
 
--- SFR 1 to 10
-abbrev pub sfrsOf : Control → List ℕ
-sfrsOf c = c .ra ∷ c .ipc ∷ c .timer ∷ c .ibase ∷ c .usreg ∷ c .hwdbg ∷ c .bp0 ∷ c .bp1 ∷ c .wp0 ∷ c .wp1 ∷ []
+-- SFR 1 to 10, and the cycle count
+abbrev pub laterWords : Control → List ℕ
+laterWords c = c .ra ∷ c .ipc ∷ c .timer ∷ c .ibase ∷ c .usreg ∷ c .hwdbg ∷ c .bp0 ∷ c .bp1 ∷ c .wp0 ∷ c .wp1 ∷ c .cycles ∷ []
 
 -- what follows the registers and their marks, from byte 80 on
 unfoldable pub controlPart : Flags → Control → List ℕ
@@ -84,8 +85,8 @@ controlPart f c =
     (words (c .pc ∷ c .psw ∷ [])
     ∷ flags (f .tf ∷ f .cy ∷ c .pending ∷ [])
     ∷ zeros 1
-    ∷ words (sfrsOf c)
-    ∷ zeros 28
+    ∷ words (laterWords c)
+    ∷ zeros 24
     ∷ [])
 
 unfoldable pub recordOf : State → List ℕ
@@ -103,7 +104,7 @@ within limit a n r = not (anyAbove limit (take n (drop a r)))
 
 -- the length, marks and flags of 0 or 1, and zero where zero stands
 unfoldable pub shaped : List ℕ → Bool
-shaped r = eqb (length r) 160 && within 1 64 16 r && within 1 88 3 r && within 0 91 1 r && within 0 132 28 r
+shaped r = eqb (length r) 160 && within 1 64 16 r && within 1 88 3 r && within 0 91 1 r && within 0 136 24 r
 
 -- ---- for the theorems
 
@@ -114,7 +115,7 @@ pub record InRange (s : State) : Type 0 where
   pub values : (i : ℕ) → getD (s .regs) i 0 < 2 ^ 32
   pub counter : s .control .pc < 2 ^ 32
   pub psw : s .control .psw < 2 ^ 32
-  pub sfrs : (i : ℕ) → getD (sfrsOf (s .control)) i 0 < 2 ^ 32
+  pub later : (i : ℕ) → getD (laterWords (s .control)) i 0 < 2 ^ 32
 
 -- each number a byte
 abbrev pub Bytes : List ℕ → Type 0

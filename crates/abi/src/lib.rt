@@ -67,6 +67,7 @@ fn control_at(r: &[u8]) -> Control
         bp1: word_at(r, 120),
         wp0: word_at(r, 124),
         wp1: word_at(r, 128),
+        cycles: word_at(r, 132),
     }
 }
 
@@ -131,9 +132,10 @@ fn put_control(r: &mut [u8], f: Flags, c: Control)
             c.bp1,
             c.wp0,
             c.wp1,
+            c.cycles,
         ],
     );
-    put_flags(r, 132, &[false; 28]);
+    put_flags(r, 136, &[false; 24]);
 }
 
 fn put_state(r: &mut [u8], s: State)
@@ -167,7 +169,7 @@ fn is_shaped(r: &[u8]) -> bool
     if r.len() == 160 {
         let ones = word::both(is_within(1, 64, 16, r), is_within(1, 88, 3, r));
         let gap = word::both(ones, is_within(0, 91, 1, r));
-        return word::both(gap, is_within(0, 132, 28, r));
+        return word::both(gap, is_within(0, 136, 24, r));
     }
     false
 }

@@ -24,10 +24,10 @@ use Rattle.machine.specs.Run.{Final, runOf}
 use Rattle.machine.specs.declared.State.{State}
 use Rattle.secrecy.specs.Same.{hide, SamePsw, SameMem, Same, SameFinal}
 use Rattle.secrecy.proofs.Theorems.{two-runs}
-use Rattle.abi.specs.Record.{each, controlAt, stateAt, bytes, laid, words, flags, zeros, sfrsOf, controlPart, recordOf, within, shaped, Bytes}
+use Rattle.abi.specs.Record.{each, controlAt, stateAt, bytes, laid, words, flags, zeros, laterWords, controlPart, recordOf, within, shaped, Bytes}
 use Rattle.abi.specs.Call.{replied, notRecord, called}
 use Rattle.abi.proofs.Laws.{length-bytes, length-laid, load-drop, load-bytes, load-one, each-map}
-use Rattle.abi.proofs.Parts.{build, readWords, readFlags, in-parts, flags-from, in-shape, two, three, from132, from92, from88, from80, from64, rests}
+use Rattle.abi.proofs.Parts.{build, readWords, readFlags, in-parts, flags-from, in-shape, two, three, from136, from92, from88, from80, from64, rests}
 use Rattle.abi.proofs.Sixteen.{Sixteen, sixteen-at, run-sixteen}
 use Rattle.abi.proofs.Theorems.{record-length}
 use Rattle.calls.specs.Records.{SameRecord, SameAnswer}
@@ -87,7 +87,7 @@ module _ {r q : List ℕ} (s : SameRecord r q) where
       (ap₂ (λ (a b : Bool). a && b) (ap (λ (n : ℕ). eqb n 160) (s .long)) (within-same 1 64 16 (λ i l g. s .marks i l (omega arith))))
       (within-same 1 88 3 (λ i l g. s .rest i l)))
       (within-same 0 91 1 (λ i l g. s .rest i (omega arith))))
-      (within-same 0 132 28 (λ i l g. s .rest i (omega arith)))
+      (within-same 0 136 24 (λ i l g. s .rest i (omega arith)))
 
   -- a register by its number
   reg-same : (i : ℕ) → getD (readFlags r 16 64) i false ≡ false → getD (readWords r 16 0) i 0 ≡ getD (readWords q 16 0) i 0
@@ -112,9 +112,9 @@ module _ {r q : List ℕ} (s : SameRecord r q) where
           ∙ sym (each-at (load 4 q) 4 16 0 i 0 g)
       go (no g) = past r (omega arith) ∙ sym (past q (omega arith))
 
-  -- the control part without PSW, from pc, the three flags and SFR 1 to 10
+  -- the control part without PSW, from pc, the three flags and SFR 1 to 10 and the cycle count
   abbrev rest : ℕ → List Bool → List ℕ → Control
-  rest pc three ten = withPsw (build [] [] (pc ∷ []) three ten .control) 0
+  rest pc three later = withPsw (build [] [] (pc ∷ []) three later .control) 0
 
   module _ (h : length r ≡ 160) where
     long : length q ≡ 160
@@ -126,12 +126,12 @@ module _ {r q : List ℕ} (s : SameRecord r q) where
     three-same : readFlags r 3 88 ≡ readFlags q 3 88
     three-same = flags-same 3 88 r q (λ i l g. s .rest i l)
 
-    rest-same : rest (load 4 r 80) (readFlags r 3 88) (readWords r 10 92) ≡ rest (load 4 q 80) (readFlags q 3 88) (readWords q 10 92)
+    rest-same : rest (load 4 r 80) (readFlags r 3 88) (readWords r 11 92) ≡ rest (load 4 q 80) (readFlags q 3 88) (readWords q 11 92)
     rest-same =
         ap₂ (λ (p : ℕ) (l : List ℕ). rest p (readFlags r 3 88) l)
         (load-same 4 r q 80 (λ i l. s .marks (80 + i) (omega arith) (omega arith)))
-        (reads-same 4 10 92 r q (λ i l g. s .rest i (omega arith)))
-        ∙ ap (λ (l : List Bool). rest (load 4 q 80) l (readWords q 10 92)) three-same
+        (reads-same 4 11 92 r q (λ i l g. s .rest i (omega arith)))
+        ∙ ap (λ (l : List Bool). rest (load 4 q 80) l (readWords q 11 92)) three-same
 
     psw-same : SamePsw (stateAt r .flags) (stateAt r .control .psw) (stateAt q .control .psw)
     unfolding stateAt controlAt
@@ -268,7 +268,7 @@ module _ (a c : State) (s : Same a c) (n : Sixteen a) where
   from88-same : from88 a ≡ from88 c
   unfolding withSfr
   from88-same =
-      ap₂ (λ (f : Flags) (x : Control). flags (f .tf ∷ f .cy ∷ x .pending ∷ []) ++ (zeros 1 ++ (words (sfrsOf x) ++ from132))) (s .flags) (s .control .rest)
+      ap₂ (λ (f : Flags) (x : Control). flags (f .tf ∷ f .cy ∷ x .pending ∷ []) ++ (zeros 1 ++ (words (laterWords x) ++ from136))) (s .flags) (s .control .rest)
 
   psw-written : SamePsw (stateAt (recordOf a) .flags) (stateAt (recordOf a) .control .psw) (stateAt (recordOf c) .control .psw)
   psw-written = rw (flags-read a n, psw-read a n, psw-read c other) (low-psw (s .control .psw))
@@ -334,7 +334,7 @@ record-bytes a =
     (append-bytes (words (two a)) (from88 a) (laid-bytes 4 (two a))
     (append-bytes (flags (three a)) (zeros 1 ++ from92 a) (laid-bytes 1 (map num (three a)))
     (append-bytes (zeros 1) (from92 a) (zero-bytes 1)
-    (append-bytes (words (sfrsOf (a .control))) from132 (laid-bytes 4 (sfrsOf (a .control))) (append-bytes (zeros 28) [] (zero-bytes 28) no-bytes))))))
+    (append-bytes (words (laterWords (a .control))) from136 (laid-bytes 4 (laterWords (a .control))) (append-bytes (zeros 24) [] (zero-bytes 24) no-bytes))))))
 
 pub call-bytes : (r m k t : List ℕ) (b : ℕ) → Bytes r → Bytes (called r m k t b .state)
 unfolding called

@@ -1,19 +1,19 @@
 -- Small laws that the functions' proofs cite.
 -- Assumes nothing.
-use Prim.Native.Nat.{ℕ, _+_, _*_, _/_, _%_, _^_, _≤_}
+use Prim.Native.Nat.{ℕ, _+_, _*_, _-_, _/_, _%_, _^_, _≤_, _<_}
 use native.Mathlib.Nat.{add-mod-mod}
-use mathlib.Core.Path.{_≡_, sym, ap, _∙_}
-use mathlib.Core.Bool.{false}
+use mathlib.Core.Path.{_≡_, refl, sym, ap, _∙_}
+use mathlib.Core.Bool.{Bool, true, false, _||_}
 use mathlib.Core.List.{[], _∷_}
 use lib.ListN.{List·getD-eq-default}
-use Rattle.cpu.specs.Control.{sfrOf, withSfr}
+use Rattle.cpu.specs.Control.{sfrOf, withSfr, withTimer}
 use Rattle.cpu.specs.Entries.{watchHit}
 use Rattle.cpu.specs.declared.Control.{Control}
 use Rattle.word.specs.Bits.{on, fieldOf}
 use Rattle.word.specs.declared.ByteAddr.{ByteAddr}
 use native.Mathlib.Omega.{arith}
-use lib.Dec.{eqb, lit≤}
-use borrow.Author.Tests.{ne-eqb}
+use lib.Dec.{eqb, leb, lit≤}
+use borrow.Author.Tests.{ne-eqb, le-leb, lt-leb}
 
 -- there is no SFR past 10
 pub sfr-past : (n : ℕ) (c : Control) → 11 ≤ n → 0 ≡ sfrOf n c
@@ -49,3 +49,20 @@ unwatched a c z = rw (off-four, off-five)
 -- an offset that wrapped already
 pub offset : (base n k : ℕ) → (base + (n * k) % 2 ^ 32) % 2 ^ 32 ≡ (base + n * k) % 2 ^ 32
 offset base n k = add-mod-mod base (n * k) (2 ^ 32)
+
+-- TIMER falls to 0, or by all of a step's cost
+or-true : (b : Bool) → (b || true) ≡ true
+or-true true = refl
+or-true false = refl
+
+or-false : (b : Bool) → (b || false) ≡ b
+or-false true = refl
+or-false false = refl
+
+pub fall-all : (c : Control) (n : ℕ) → c .timer ≤ n → withTimer c 0 true ≡ withTimer c (c .timer - n) (c .pending || leb (c .timer) n)
+fall-all c n h =
+    let z : c .timer - n ≡ 0 = omega arith in
+    rw (z, le-leb _ _ h, or-true (c .pending))
+
+pub fall-some : (c : Control) (n : ℕ) → n < c .timer → withTimer c (c .timer - n) (c .pending) ≡ withTimer c (c .timer - n) (c .pending || leb (c .timer) n)
+fall-some c n h = rw (lt-leb _ _ h, or-false (c .pending))

@@ -1,8 +1,8 @@
 -- The part of the state that is never marked but for TF and CY: the program counter, PSW, SFR 1 to 10 and "timer pending" (document 01, "What the
--- model has"), and the ways to change one place of it.
+-- model has"), the cycle count (document 02, ticket 6), and the ways to change one place of it.
 -- Assumes nothing.
 use Prim.Native.Nat.{ℕ}
-use mathlib.Core.Bool.{Bool, false, cond}
+use mathlib.Core.Bool.{Bool, false, cond, Bool·beq}
 use mathlib.Core.List.{[], _∷_}
 use lib.Dec.{eqb}
 use lib.ListN.{getD}
@@ -13,7 +13,7 @@ use Rattle.cpu.specs.declared.Control.{Control}
 -- "Fresh: all zero and unmarked, HWDBG 3"
 abbrev pub freshControl : Control
 freshControl =
-    record { pc = 0; psw = 0; ra = 0; ipc = 0; timer = 0; ibase = 0; usreg = 0; hwdbg = 3; bp0 = 0; bp1 = 0; wp0 = 0; wp1 = 0; pending = false }
+    record { pc = 0; psw = 0; ra = 0; ipc = 0; timer = 0; ibase = 0; usreg = 0; hwdbg = 3; bp0 = 0; bp1 = 0; wp0 = 0; wp1 = 0; pending = false; cycles = 0 }
 
 -- ---- the program counter
 
@@ -22,7 +22,7 @@ pcOf c = record { 0 = c .pc }
 
 unfoldable pub withPc : Control → ByteAddr → Control
 withPc c a =
-    record { pc = a .0; psw = c .psw; ra = c .ra; ipc = c .ipc; timer = c .timer; ibase = c .ibase; usreg = c .usreg; hwdbg = c .hwdbg; bp0 = c .bp0; bp1 = c .bp1; wp0 = c .wp0; wp1 = c .wp1; pending = c .pending }
+    record { pc = a .0; psw = c .psw; ra = c .ra; ipc = c .ipc; timer = c .timer; ibase = c .ibase; usreg = c .usreg; hwdbg = c .hwdbg; bp0 = c .bp0; bp1 = c .bp1; wp0 = c .wp0; wp1 = c .wp1; pending = c .pending; cycles = c .cycles }
 
 -- ---- SFR 0 to 10 by number
 
@@ -52,6 +52,7 @@ withSfr n c x = record {
   wp0 = here n 9 x (c .wp0);
   wp1 = here n 10 x (c .wp1);
   pending = c .pending;
+  cycles = c .cycles;
 }
 
 abbrev pub withPsw : Control → ℕ → Control
@@ -67,10 +68,16 @@ withHwdbg c x = withSfr 6 c x
 
 unfoldable pub withPending : Control → Bool → Control
 withPending c b =
-    record { pc = c .pc; psw = c .psw; ra = c .ra; ipc = c .ipc; timer = c .timer; ibase = c .ibase; usreg = c .usreg; hwdbg = c .hwdbg; bp0 = c .bp0; bp1 = c .bp1; wp0 = c .wp0; wp1 = c .wp1; pending = b }
+    record { pc = c .pc; psw = c .psw; ra = c .ra; ipc = c .ipc; timer = c .timer; ibase = c .ibase; usreg = c .usreg; hwdbg = c .hwdbg; bp0 = c .bp0; bp1 = c .bp1; wp0 = c .wp0; wp1 = c .wp1; pending = b; cycles = c .cycles }
 
 abbrev pub withTimer : Control → ℕ → Bool → Control
 withTimer c x b = withPending (withSfr 3 c x) b
+
+-- ---- "a cycle count modulo 2^32 in the state" (document 02, ticket 6)
+
+unfoldable pub withCycles : Control → ℕ → Control
+withCycles c n =
+    record { pc = c .pc; psw = c .psw; ra = c .ra; ipc = c .ipc; timer = c .timer; ibase = c .ibase; usreg = c .usreg; hwdbg = c .hwdbg; bp0 = c .bp0; bp1 = c .bp1; wp0 = c .wp0; wp1 = c .wp1; pending = c .pending; cycles = n }
 
 -- ---- TF is bit 8 of PSW, CY is bit 9 (the guide, "PSW")
 
@@ -79,6 +86,10 @@ tf c = on (c .psw) 8
 
 abbrev pub cy : Control → Bool
 cy c = on (c .psw) 9
+
+-- TF says what the instruction wants
+abbrev pub wants : Bool → Control → Bool
+wants t c = Bool·beq (tf c) t
 
 abbrev pub withTf : Control → Bool → Control
 withTf c b = withPsw c (withBit (c .psw) 8 b)

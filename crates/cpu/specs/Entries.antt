@@ -1,12 +1,12 @@
 -- Entries, breakpoints, watchpoints and the timer (document 01, "One step").
 -- Assumes nothing.
-use Prim.Native.Nat.{ℕ, _+_, _*_, _-_}
+use Prim.Native.Nat.{ℕ, _+_, _*_, _-_, _%_, _^_}
 use mathlib.Core.Bool.{Bool, true, false, cond, _&&_, _||_}
-use lib.Dec.{ltb, eqb}
+use lib.Dec.{ltb, eqb, leb}
 use Rattle.word.specs.Bits.{num, on, withField, withBit}
 use Rattle.word.specs.Numbers.{lslOf}
 use Rattle.word.specs.declared.ByteAddr.{ByteAddr}
-use Rattle.cpu.specs.Control.{withPc, withPsw, withIpc, withHwdbg, withPending, withTimer}
+use Rattle.cpu.specs.Control.{withPc, withPsw, withIpc, withHwdbg, withPending, withTimer, withCycles}
 use Rattle.cpu.specs.declared.Control.{Control}
 use Rattle.cpu.specs.declared.Entry.{Entry}
 
@@ -45,6 +45,10 @@ watchHit a c = num (on (c .hwdbg) 4 && eqb (c .wp0) (a .0)) * 2 + num (on (c .hw
 unfoldable pub watchEntry : ByteAddr → Control → Entry
 watchEntry a c = cond (ltb 0 (watchHit a c)) (Entry.Debug (watchHit a c)) Entry.Nothing
 
--- "if TE was 1 at its start and TIMER isn't 0, TIMER falls by 1; reaching 0 sets pending"
-unfoldable pub fallen : Bool → Control → Control
-fallen te c = cond (te && ltb 0 (c .timer)) (withTimer c (c .timer - 1) (c .pending || eqb (c .timer) 1)) c
+-- "if TE was 1 at its start and TIMER isn't 0, TIMER falls"; "by the step's cost, to no less than 0" (document 02, ticket 6); "reaching 0 sets pending"
+unfoldable pub fallen : Bool → ℕ → Control → Control
+fallen te n c = cond (te && ltb 0 (c .timer)) (withTimer c (c .timer - n) (c .pending || leb (c .timer) n)) c
+
+-- a step of cost n goes by: the timer's fall, and the count "modulo 2^32"
+unfoldable pub passed : Bool → ℕ → Control → Control
+passed te n c = withCycles (fallen te n c) ((c .cycles + n) % 2 ^ 32)

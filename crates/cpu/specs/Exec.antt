@@ -1,7 +1,8 @@
--- What each instruction reads, and what it does to the values: the register that it writes, and the control part after it (document 01, "Instructions").
+-- What each instruction reads, and what it does to the values: the register that it writes, and the control part after it (document 01, "Instructions"),
+-- with its cost.
 -- Assumes nothing.
 use Prim.Native.Nat.{ℕ, _+_, _*_, _/_, _%_}
-use mathlib.Core.Bool.{Bool, true, false, cond, not, Bool·beq, _&&_, _||_}
+use mathlib.Core.Bool.{Bool, true, false, cond, not, _&&_, _||_}
 use lib.Dec.{eqb, leb}
 use lib.Bits.{bitAnd, bitOr, bitXor}
 use Rattle.word.specs.Bits.{on, fieldOf, withField, withBit}
@@ -20,7 +21,8 @@ use Rattle.isa.specs.declared.ImmOp.{ImmOp}
 use Rattle.isa.specs.declared.ShortOp.{ShortOp}
 use Rattle.isa.specs.declared.LongOp.{LongOp}
 use Rattle.isa.specs.declared.Instr.{Instr}
-use Rattle.cpu.specs.Control.{pcOf, withPc, withSfr, withPsw, withHwdbg, withTimer, tf, cy, withTf, withCy, sfrOf}
+use Rattle.cpu.specs.Control.{pcOf, withPc, withSfr, withPsw, withHwdbg, withTimer, cy, wants, withTf, withCy, sfrOf}
+use Rattle.cpu.specs.Cycles.{costOf}
 use Rattle.cpu.specs.declared.Control.{Control}
 use Rattle.cpu.specs.declared.Effect.{Effect}
 use Rattle.cpu.specs.declared.Sources.{Sources}
@@ -42,10 +44,6 @@ linked c = withSfr 1 c (byteSum (pcOf c) 4 .0)
 -- "the base is the jump's .. own address"
 unfoldable pub jump : HalfDisp → Control → Control
 jump d c = withPc c (jumpSum (pcOf c) d)
-
--- TF says what the instruction wants
-abbrev pub wants : Bool → Control → Bool
-wants t c = Bool·beq (tf c) t
 
 -- a conditional jump of n bytes
 unfoldable pub branch : Bool → HalfDisp → ℕ → Control → Control
@@ -165,38 +163,45 @@ leave n c = cond (eqb n 2) (withPsw c (withBit (withBit (c .psw) 3 (on (c .psw) 
 abbrev pub noReg : ℕ
 noReg = 16
 
--- a register and its value, and the next instruction of two bytes; or no register
+-- a register and its value, and the next instruction of two bytes; or no register. The cost is put in below
 abbrev pub putsReg : ℕ → ℕ → Control → Effect
-putsReg d v c = record { control = onward 2 c; reg = d; value = v; wrote = false }
+putsReg d v c = record { control = onward 2 c; reg = d; value = v; wrote = false; cost = 0 }
 
 abbrev pub moves : Control → Effect
-moves c = record { control = c; reg = noReg; value = 0; wrote = false }
+moves c = record { control = c; reg = noReg; value = 0; wrote = false; cost = 0 }
 
 -- mtsfr; "an accepted write .. takes the place of that step's fall", so wrote says whether TIMER was written
 abbrev pub writesSfr : ℕ → ℕ → Control → Effect
-writesSfr n v c = record { control = onward 2 (written n v c); reg = noReg; value = 0; wrote = eqb n 3 && accepted c }
+writesSfr n v c = record { control = onward 2 (written n v c); reg = noReg; value = 0; wrote = eqb n 3 && accepted c; cost = 0 }
 
--- What an instruction does, but for memory and the entry that it makes (crate instruction, `reachOf`).
+-- What an instruction makes of the values, but for memory and the entry that it makes (crate instruction, `reachOf`).
 -- x is the register that the guide calls Rd, y the one that it calls Rb, as far as the instruction reads them; v is what it loads
+unfoldable pub makes : Instr → ℕ → ℕ → ℕ → Control → Effect
+makes (Instr.Alu op d b) x y v c = putsReg d (aluOf op x y (cy c)) (carried op x y c)
+makes (Instr.ShiftImm op d n) x y v c = putsReg d (shiftOf op x n) c
+makes (Instr.Cmp op d b) x y v c = moves (onward 2 (withTf c (cmpOf op x y)))
+makes (Instr.CmpImm op d n) x y v c = moves (onward 2 (withTf c (cmpImmOf op x n)))
+makes (Instr.Cond op t d b) x y v c = putsReg d (cond (wants t c) (condOf op x y) x) c
+makes (Instr.CondImm t d n) x y v c = putsReg d (cond (wants t c) (sumOf x n false) x) c
+makes (Instr.Ldrpc d n) x y v c = putsReg d v c
+makes (Instr.Imm op d n) x y v c = putsReg d (immValue op x n) c
+makes (Instr.Load w d n b) x y v c = putsReg d v c
+makes (Instr.Store w d n b) x y v c = moves (onward 2 c)
+makes (Instr.Mfsfr d n) x y v c = putsReg d (sfrOf n c) c
+makes (Instr.Mtsfr n b) x y v c = writesSfr n y c
+makes (Instr.Jr b) x y v c = moves (goTo y c)
+makes (Instr.Jrl b) x y v c = moves (goTo y (linked c))
+makes (Instr.Jsfr n) x y v c = moves (goTo (sfrOf n c) (leave n c))
+makes (Instr.Swint n) x y v c = moves (onward 2 c)
+makes (Instr.ShortJump op d) x y v c = moves (shortJump op d c)
+makes (Instr.LongJump op d) x y v c = moves (longJump op d c)
+
+-- .. with its cost (Cycles.antt)
+abbrev pub costing : ℕ → Effect → Effect
+costing n e = record { control = e .control; reg = e .reg; value = e .value; wrote = e .wrote; cost = n }
+
 unfoldable pub exec : Instr → ℕ → ℕ → ℕ → Control → Effect
-exec (Instr.Alu op d b) x y v c = putsReg d (aluOf op x y (cy c)) (carried op x y c)
-exec (Instr.ShiftImm op d n) x y v c = putsReg d (shiftOf op x n) c
-exec (Instr.Cmp op d b) x y v c = moves (onward 2 (withTf c (cmpOf op x y)))
-exec (Instr.CmpImm op d n) x y v c = moves (onward 2 (withTf c (cmpImmOf op x n)))
-exec (Instr.Cond op t d b) x y v c = putsReg d (cond (wants t c) (condOf op x y) x) c
-exec (Instr.CondImm t d n) x y v c = putsReg d (cond (wants t c) (sumOf x n false) x) c
-exec (Instr.Ldrpc d n) x y v c = putsReg d v c
-exec (Instr.Imm op d n) x y v c = putsReg d (immValue op x n) c
-exec (Instr.Load w d n b) x y v c = putsReg d v c
-exec (Instr.Store w d n b) x y v c = moves (onward 2 c)
-exec (Instr.Mfsfr d n) x y v c = putsReg d (sfrOf n c) c
-exec (Instr.Mtsfr n b) x y v c = writesSfr n y c
-exec (Instr.Jr b) x y v c = moves (goTo y c)
-exec (Instr.Jrl b) x y v c = moves (goTo y (linked c))
-exec (Instr.Jsfr n) x y v c = moves (goTo (sfrOf n c) (leave n c))
-exec (Instr.Swint n) x y v c = moves (onward 2 c)
-exec (Instr.ShortJump op d) x y v c = moves (shortJump op d c)
-exec (Instr.LongJump op d) x y v c = moves (longJump op d c)
+exec i x y v c = costing (costOf i y c) (makes i x y v c)
 
 -- ---- operands and addresses
 

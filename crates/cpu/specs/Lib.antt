@@ -1,3 +1,4 @@
 pub mod Control
 pub mod Entries
+pub mod Cycles
 pub mod Exec

@@ -1,15 +1,18 @@
 // Entries, breakpoints, watchpoints and the timer.
 ghost use mathlib.Core.Path.{_≡_};
-ghost use mathlib.Core.Bool.{true, _&&_};
-ghost use lib.Dec.{eqb};
+ghost use mathlib.Core.Bool.{true, _&&_, _||_};
+ghost use Prim.Native.Nat.{_-_};
+ghost use lib.Dec.{eqb, leb};
 ghost use Rattle.word.specs.Bits.{withBit};
-ghost use Rattle.cpu.specs.Control.{withPsw};
-ghost use Rattle.cpu.specs.Entries.{vector, enter, entered, isBreak, watchHit, watchEntry, fallen};
+ghost use Rattle.cpu.specs.Control.{withPsw, withTimer};
+ghost use Rattle.cpu.specs.Entries.{vector, enter, entered, isBreak, watchHit, watchEntry, fallen, passed};
+ghost use Rattle.cpu.specs.Cycles.{entryCost};
 ghost use Rattle.cpu.specs.Exec.{onward};
 ghost use Rattle.cpu.specs.declared.Entry.{Entry};
 use crate::Control;
 use crate::Entry;
 use crate::effects::go_on;
+use crate::places::with_cycles;
 use crate::places::with_hwdbg;
 use crate::places::with_ipc;
 use crate::places::with_pc;
@@ -144,17 +147,59 @@ pub fn enter_watch(a: ByteAddr, c: Control) -> Control
     if 0 < hit { enter_debug(hit, c) } else { c }
 }
 
+fn fall_by(n: u32, c: Control) -> Control
+    ensures { λ r. ⌜ r ≡ withTimer c (c .timer - n) (c .pending || leb (c .timer) n) ⌝ }
+{
+    if c.timer <= n {
+        with_timer(c, 0, true)
+    } else {
+        with_timer(c, c.timer - n, c.pending)
+    }
+}
+
+// What a watchpoint's entry adds to its load or store.
+pub fn watch_cost(a: ByteAddr, c: Control) -> u8
+    ensures { λ r. ⌜ r ≡ entryCost (watchEntry a c) ⌝ }
+{
+    if word::field(c.hwdbg, 4, 2) == 0 {
+        return 0;
+    }
+    if 0 < watch_hit(a, c) { 4 } else { 0 }
+}
+
+// What an entry adds to its instruction's cost.
+pub fn entry_cost(e: Entry) -> u8
+    ensures { λ r. ⌜ r ≡ entryCost e ⌝ }
+{
+    match e {
+        Entry::Nothing => 0,
+        Entry::Swint(_) => 0,
+        Entry::Debug(_) => 4,
+        Entry::Timer => 4,
+        Entry::External(_) => 4,
+        Entry::FetchError => 4,
+        Entry::DataError => 4,
+    }
+}
+
 // A match on TIMER costs the compiler fewer instructions than a comparison.
-pub fn fall(te: bool, c: Control) -> Control
-    ensures { λ r. ⌜ r ≡ fallen te c ⌝ }
+fn fall(te: bool, n: u32, c: Control) -> Control
+    ensures { λ r. ⌜ r ≡ fallen te n c ⌝ }
 {
     let t = c.timer;
     if te {
         match t {
             0 => c,
-            _ => with_timer(c, t - 1, word::either(c.pending, t == 1)),
+            _ => fall_by(n, c),
         }
     } else {
         c
     }
+}
+
+// A step of cost n goes by.
+pub fn pass(te: bool, n: u32, c: Control) -> Control
+    ensures { λ r. ⌜ r ≡ passed te n c ⌝ }
+{
+    with_cycles(fall(te, n, c), std::num::wrapping_add_u32(c.cycles, n))
 }

@@ -1,4 +1,5 @@
 // The core without marks: its control part, entries, the timer, and what each instruction does.
+mod costs;
 mod effects;
 mod entries;
 mod operands;
@@ -11,10 +12,12 @@ pub use entries::data_error;
 pub use entries::enter;
 pub use entries::enter_swint;
 pub use entries::enter_watch;
-pub use entries::fall;
+pub use entries::entry_cost;
 pub use entries::fetch_error;
 pub use entries::has_break;
+pub use entries::pass;
 pub use entries::watch;
+pub use entries::watch_cost;
 pub use operands::data_address;
 pub use operands::sources_of;
 pub use places::fresh_control;
@@ -51,14 +54,17 @@ pub struct Control {
     pub wp0: u32,
     pub wp1: u32,
     pub pending: bool,
+    pub cycles: u32,
 }
 
-// What an instruction does to the values: the control part after it, a register (NO_REG: none) and its value, and whether it wrote TIMER.
+// What an instruction does to the values: the control part after it, a register (NO_REG: none) and its value, whether it wrote TIMER, and its cost in
+// cycles.
 pub struct Effect {
     pub control: Control,
     pub reg: u32,
     pub value: u32,
     pub wrote: bool,
+    pub cost: u8,
 }
 
 // The registers that an instruction reads.

@@ -1,6 +1,6 @@
 // The control part, and the ways to change one place of it.
 ghost use mathlib.Core.Path.{_≡_};
-ghost use Rattle.cpu.specs.Control.{freshControl, withPc, withSfr, withPsw, withIpc, withHwdbg, withPending, withTimer, sfrOf};
+ghost use Rattle.cpu.specs.Control.{freshControl, withPc, withSfr, withPsw, withIpc, withHwdbg, withPending, withTimer, withCycles, sfrOf};
 use crate::Control;
 use word::ByteAddr;
 
@@ -21,6 +21,7 @@ pub fn fresh_control() -> Control
         wp0: 0,
         wp1: 0,
         pending: false,
+        cycles: 0,
     }
 }
 
@@ -68,6 +69,12 @@ pub fn with_timer(c: Control, timer: u32, pending: bool) -> Control
         pending,
         ..c
     }
+}
+
+pub fn with_cycles(c: Control, cycles: u32) -> Control
+    ensures { λ r. ⌜ r ≡ withCycles c cycles ⌝ }
+{
+    Control { cycles, ..c }
 }
 
 pub fn with_sfr(n: u32, c: Control, x: u32) -> Control

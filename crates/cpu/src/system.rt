@@ -73,19 +73,20 @@ pub fn mtsfr(n: u32, y: u32, c: Control) -> Effect
         reg: NO_REG,
         value: 0,
         wrote: word::both(n == 3, is_accepted(c)),
+        cost: 1,
     }
 }
 
 pub fn jr(y: u32, c: Control) -> Effect
     ensures { λ r. ⌜ r ≡ exec (Instr.Jr 0) 0 y 0 c ⌝ }
 {
-    move_to(go_to(y, c))
+    move_to(2, go_to(y, c))
 }
 
 pub fn jrl(y: u32, c: Control) -> Effect
     ensures { λ r. ⌜ r ≡ exec (Instr.Jrl 0) 0 y 0 c ⌝ }
 {
-    move_to(go_to(y, link(c)))
+    move_to(2, go_to(y, link(c)))
 }
 
 fn leave_by(n: u32, c: Control) -> Control
@@ -102,22 +103,22 @@ fn leave_by(n: u32, c: Control) -> Control
 pub fn jsfr(n: u32, c: Control) -> Effect
     ensures { λ r. ⌜ r ≡ exec (Instr.Jsfr n) 0 0 0 c ⌝ }
 {
-    move_to(go_to(sfr_of(n, c), leave_by(n, c)))
+    move_to(2, go_to(sfr_of(n, c), leave_by(n, c)))
 }
 
 pub fn swint(n: u32, c: Control) -> Effect
     ensures { λ r. ⌜ r ≡ exec (Instr.Swint n) 0 0 0 c ⌝ }
 {
-    move_to(go_on(2, c))
+    move_to(2, go_on(2, c))
 }
 
 pub fn short_jump(op: ShortOp, d: HalfDisp, c: Control) -> Effect
     ensures { λ r. ⌜ r ≡ exec (Instr.ShortJump op d) 0 0 0 c ⌝ }
 {
     match op {
-        ShortOp::Sjf => move_to(branch_by(false, d, 2, c)),
-        ShortOp::Sjt => move_to(branch_by(true, d, 2, c)),
-        ShortOp::Sj => move_to(jump_by(d, c)),
+        ShortOp::Sjf => branch_by(false, d, 2, c),
+        ShortOp::Sjt => branch_by(true, d, 2, c),
+        ShortOp::Sj => move_to(2, jump_by(d, c)),
     }
 }
 
@@ -125,9 +126,9 @@ pub fn long_jump(op: LongOp, d: HalfDisp, c: Control) -> Effect
     ensures { λ r. ⌜ r ≡ exec (Instr.LongJump op d) 0 0 0 c ⌝ }
 {
     match op {
-        LongOp::Jf => move_to(branch_by(false, d, 4, c)),
-        LongOp::Jt => move_to(branch_by(true, d, 4, c)),
-        LongOp::J => move_to(jump_by(d, c)),
-        LongOp::Jl => move_to(jump_by(d, link(c))),
+        LongOp::Jf => branch_by(false, d, 4, c),
+        LongOp::Jt => branch_by(true, d, 4, c),
+        LongOp::J => move_to(2, jump_by(d, c)),
+        LongOp::Jl => move_to(2, jump_by(d, link(c))),
     }
 }

@@ -3,14 +3,16 @@ ghost use mathlib.Core.Path.{_≡_};
 ghost use Rattle.word.specs.declared.Width.{Width};
 ghost use Rattle.isa.specs.declared.Instr.{Instr};
 ghost use mathlib.Core.Bool.{cond};
-ghost use Rattle.cpu.specs.Exec.{condOf, putsReg, exec};
+ghost use Rattle.cpu.specs.Exec.{condOf, putsReg, costing, exec};
 use crate::Control;
 use crate::Effect;
+use crate::costs::shift_cost;
 use crate::effects::go_on;
 use crate::effects::is_wanted;
 use crate::effects::minus;
 use crate::effects::move_to;
 use crate::effects::plus;
+use crate::effects::set_at;
 use crate::effects::set_if;
 use crate::effects::set_reg;
 use crate::effects::set_sum;
@@ -38,10 +40,10 @@ pub fn alu(op: AluOp, d: u32, x: u32, y: u32, c: Control) -> Effect
         AluOp::Xhw => set_reg(d, y % 65536 * 65536 + y / 65536, c),
         AluOp::Sxh => set_reg(d, word::extend(16, y), c),
         AluOp::Zxh => set_reg(d, y % 65536, c),
-        AluOp::Lsl => set_reg(d, word::lsl(x, y % 64), c),
-        AluOp::Lsr => set_reg(d, word::lsr(x, y % 64), c),
-        AluOp::Asr => set_reg(d, word::asr(x, y % 64), c),
-        AluOp::Mult => set_reg(d, word::mult(x, y), c),
+        AluOp::Lsl => set_at(shift_cost(y % 64), d, word::lsl(x, y % 64), c),
+        AluOp::Lsr => set_at(shift_cost(y % 64), d, word::lsr(x, y % 64), c),
+        AluOp::Asr => set_at(shift_cost(y % 64), d, word::asr(x, y % 64), c),
+        AluOp::Mult => set_at(2, d, word::mult(x, y), c),
     }
 }
 
@@ -49,10 +51,10 @@ pub fn shift_imm(op: ShiftOp, d: u32, n: u32, x: u32, c: Control) -> Effect
     ensures { λ r. ⌜ r ≡ exec (Instr.ShiftImm op d n) x 0 0 c ⌝ }
 {
     match op {
-        ShiftOp::Lsl => set_reg(d, word::lsl(x, n), c),
-        ShiftOp::Lsr => set_reg(d, word::lsr(x, n), c),
-        ShiftOp::Asr => set_reg(d, word::asr(x, n), c),
-        ShiftOp::Mult => set_reg(d, word::mult(x, n), c),
+        ShiftOp::Lsl => set_at(shift_cost(n), d, word::lsl(x, n), c),
+        ShiftOp::Lsr => set_at(shift_cost(n), d, word::lsr(x, n), c),
+        ShiftOp::Asr => set_at(shift_cost(n), d, word::asr(x, n), c),
+        ShiftOp::Mult => set_at(2, d, word::mult(x, n), c),
     }
 }
 
@@ -80,7 +82,7 @@ pub fn compare_imm(op: CmpImmOp, n: u32, x: u32, c: Control) -> Effect
 
 // Whether TF says what the instruction wants is asked once, for the value and for its mark.
 pub fn conditional(op: CondOp, wanted: bool, d: u32, x: u32, y: u32, c: Control) -> Effect
-    ensures { λ r. ⌜ r ≡ putsReg d (cond wanted (condOf op x y) x) c ⌝ }
+    ensures { λ r. ⌜ r ≡ costing 1 (putsReg d (cond wanted (condOf op x y) x) c) ⌝ }
 {
     match op {
         CondOp::Mov => set_if(wanted, d, y, x, c),
@@ -109,12 +111,12 @@ pub fn immediate(op: ImmOp, d: u32, n: u32, x: u32, c: Control) -> Effect
 pub fn loaded(d: u32, v: u32, c: Control) -> Effect
     ensures { λ r. ⌜ r ≡ exec (Instr.Ldrpc d 0) 0 0 v c ⌝ }
 {
-    set_reg(d, v, c)
+    set_at(2, d, v, c)
 }
 
 // str, strh and strb change no register.
 pub fn stored(c: Control) -> Effect
     ensures { λ r. ⌜ r ≡ exec (Instr.Store Width.Byte 0 0 0) 0 0 0 c ⌝ }
 {
-    move_to(go_on(2, c))
+    move_to(2, go_on(2, c))
 }

@@ -7,7 +7,7 @@ ghost use Rattle.word.specs.Bits.{on};
 ghost use Rattle.word.specs.declared.Width.{Width};
 ghost use Rattle.isa.specs.declared.Instr.{Instr};
 ghost use Rattle.cpu.specs.Exec.{exec, dataAddress};
-ghost use Rattle.marks.specs.Marks.{with, taint, shortBlocked, longBlocked};
+ghost use Rattle.marks.specs.Marks.{with, taint, aluBlocked, shortBlocked, longBlocked};
 ghost use Rattle.instruction.specs.Act.{actOf};
 ghost use Rattle.instruction.specs.Parts.{val, flags, loadAct, storeAct};
 ghost use Rattle.instruction.specs.declared.Halt.{Halt};
@@ -127,10 +127,13 @@ fn alu_on(
     cy: bool,
     c: Control,
 ) -> Act
-    ensures { λ r. ⌜ r ≡ Act.Does (exec (Instr.Alu op d 0) u v 0 c) (taint (Instr.Alu op 0 0) mu mv false false (flags tf cy)) Reach.Nowhere ⌝ }
+    ensures { λ r. ⌜ r ≡ cond (aluBlocked op mv) (Act.Halted Halt.MarkedOperand) (Act.Does (exec (Instr.Alu op d 0) u v 0 c) (taint (Instr.Alu op 0 0) mu mv false false (flags tf cy)) Reach.Nowhere) ⌝ }
 {
     let e = cpu::alu(op, d, u, v, c);
-    does(e, marks::mark_alu(op, mu, mv, tf, cy))
+    stop_if(
+        marks::is_alu_blocked(op, mv),
+        does(e, marks::mark_alu(op, mu, mv, tf, cy)),
+    )
 }
 
 fn short_on(op: ShortOp, d: HalfDisp, tf: bool, cy: bool, c: Control) -> Act

@@ -6,8 +6,8 @@ use mathlib.Core.Bool.{Bool, true, false, cond, not, _&&_, _||_}
 use mathlib.Core.List.{List}
 use native.Mathlib.Omega.{arith}
 use native.Mathlib.Nat.{mod-mod}
-use lib.Dec.{ltb, eqb, lit≤, lit<}
-use borrow.Author.Tests.{ltb-true, ltb-false, eqb-true}
+use lib.Dec.{ltb, eqb, leb, lit≤, lit<}
+use borrow.Author.Tests.{leb-true}
 use Rattle.word.specs.Bits.{num, on, fieldOf, put, withField, withBit}
 use Rattle.word.specs.Numbers.{lslOf, carryOf, borrowOf}
 use Rattle.word.specs.Addresses.{jumpSum, byteSum}
@@ -18,9 +18,10 @@ use Rattle.isa.specs.declared.AluOp.{AluOp}
 use Rattle.isa.specs.declared.ShortOp.{ShortOp}
 use Rattle.isa.specs.declared.LongOp.{LongOp}
 use Rattle.isa.specs.declared.Instr.{Instr}
-use Rattle.cpu.specs.Control.{pcOf, withPc, withSfr, withPsw, withHwdbg, withPending, withTimer, withTf, tf, cy, sfrOf}
-use Rattle.cpu.specs.Entries.{vector, enter, entered, fallen}
-use Rattle.cpu.specs.Exec.{onward, goTo, linked, jump, wants, branch, shortJump, longJump, carried, cmpOf, cmpImmOf, accepted, timerWritten, pswWritten, written, leave, exec, sourcesOf}
+use Rattle.cpu.specs.Control.{pcOf, withPc, withSfr, withPsw, withHwdbg, withPending, withTimer, withCycles, withTf, tf, cy, wants, sfrOf}
+use Rattle.cpu.specs.Entries.{vector, enter, entered, fallen, passed}
+use Rattle.cpu.specs.Exec.{onward, goTo, linked, jump, branch, shortJump, longJump, carried, cmpOf, cmpImmOf, accepted, timerWritten, pswWritten, written, leave, makes, exec, sourcesOf}
+use Rattle.cpu.specs.Cycles.{costOf, entryCost}
 use Rattle.cpu.specs.declared.Control.{Control}
 use Rattle.cpu.specs.declared.Effect.{Effect}
 use Rattle.cpu.specs.declared.Entry.{Entry}
@@ -133,18 +134,25 @@ module _ (c : Control) (f : Form c) where
   unfolding jump
   jumps d = pc c f (jumpSum (pcOf c) d) (let g = f .even in omega arith)
 
-  falls : (te : Bool) → Form (fallen te c)
+  falls : (te : Bool) (n : ℕ) → Form (fallen te n c)
   unfolding fallen
-  falls te = go (te && ltb 0 (c .timer)) (ltb 0 (c .timer)) refl
+  falls te n = go (te && ltb 0 (c .timer)) (ltb 0 (c .timer)) refl
     where
-      one : (b : Bool) (x : ℕ) → (b ≡ true → x ≡ 0) → 0 < x → (b || eqb x 1) ≡ true → x - 1 ≡ 0
-      one true x l h e = let q = l refl in absurd (omega arith)
-      one false x l h e = let q = eqb-true x 1 e in omega arith
+      late : (b : Bool) (x : ℕ) → (b ≡ true → x ≡ 0) → (b || leb x n) ≡ true → x - n ≡ 0
+      late true x l e = let q = l refl in omega arith
+      late false x l e = let q = leb-true x n e in omega arith
 
-      go : (t u : Bool) → ltb 0 (c .timer) ≡ u → Form (cond t (withTimer c (c .timer - 1) (c .pending || eqb (c .timer) 1)) c)
-      go true true e = timer c f _ _ (one (c .pending) (c .timer) (f .late) (ltb-true 0 (c .timer) e))
-      go true false e = timer c f _ _ (λ _. let q = ltb-false 0 (c .timer) e in omega arith)
+      go : (t u : Bool) → ltb 0 (c .timer) ≡ u → Form (cond t (withTimer c (c .timer - n) (c .pending || leb (c .timer) n)) c)
+      go true u e = timer c f _ _ (late (c .pending) (c .timer) (f .late))
       go false u e = f
+
+  cycles : (n : ℕ) → Form (withCycles c n)
+  unfolding withCycles
+  cycles n = record { even = f .even; twelve = f .twelve; fixed = f .fixed; high = f .high; late = f .late }
+
+passes : (c : Control) → Form c → (te : Bool) (n : ℕ) → Form (passed te n c)
+unfolding passed
+passes c f te n = cycles (fallen te n c) (falls c f te n) _
 
 -- every entry
 pub entries : (e : Entry) (c : Control) → Form c → Form (entered e c)
@@ -240,7 +248,7 @@ module _ (c : Control) (f : Form c) where
   long-jumps LongOp.Jl d = jumps (linked c) (links c f) d
 
   pub executes : (i : Instr) (x y v : ℕ) → Form (exec i x y v c .control)
-  unfolding exec
+  unfolding exec makes costOf
   executes (Instr.Alu op d b) x y v = onwards (carried op x y c) (carries op x y) 2 refl
   executes (Instr.ShiftImm op d n) x y v = onwards c f 2 refl
   executes (Instr.Cmp op d b) x y v = onwards (withTf c (cmpOf op x y)) (bit c f 8 (cmpOf op x y) (lit≤ tt)) 2 refl
@@ -267,7 +275,7 @@ Kept (completed d m k x) = Form (d .control)
 
 enters-kept : (e : Entry) (f : Flags) (c : Control) → Form c → Form (entryDone e f c .control)
 unfolding entryDone
-enters-kept e f c g = falls _ (entries e c g) (on (c .psw) 4)
+enters-kept e f c g = passes _ (entries e c g) (on (c .psw) 4) (entryCost e)
 
 halt-keeps : (h : Halt) (a : Data) (f : Flags) (c : Control) (m k : List ℕ) → Form c → Kept (haltStep h a f c m k)
 halt-keeps Halt.FetchOutside a f c m k g = enters-kept Entry.FetchError f c g
@@ -282,7 +290,8 @@ unfolding doneOf
 acted true u p q e n r a x f c m k i g = halt-keeps p a f c m k i
 acted false true p q e n r a x f c m k i g = halt-keeps q a f c m k i
 acted false false p q e n r a x f c m k i g =
-    falls (entered (entryBy r (e .control)) (e .control)) (entries (entryBy r (e .control)) (e .control) g) (on (c .psw) 4 && not (e .wrote))
+    passes (entered (entryBy r (e .control)) (e .control)) (entries (entryBy r (e .control)) (e .control) g) (on (c .psw) 4 && not (e .wrote))
+    (e .cost + entryCost (entryBy r (e .control)))
 
 acts : (i : Instr) (a : Data) (x y : Val) (f : Flags) (c : Control) (m k : List ℕ) → Form c → Kept (actStep (actOf i x y f c m k) a x f c m k)
 unfolding actOf

@@ -1,6 +1,6 @@
 -- Theorems on the machine's definitions, each with its statement; read this file alone with specs/. The proofs are in the files that it cites.
 -- Assumes nothing.
-use Prim.Native.Nat.{ℕ, suc, _+_, _*_, _/_, _%_, _<_}
+use Prim.Native.Nat.{ℕ, suc, _+_, _*_, _/_, _%_, _^_, _<_}
 use mathlib.Core.Path.{_≡_, refl, sym, ap, subst, _∙_}
 use mathlib.Core.Bool.{Bool, true, false, not, _&&_, _||_}
 use mathlib.Core.List.{List}
@@ -25,7 +25,7 @@ use Rattle.instruction.specs.declared.Fetched.{Fetched}
 use Rattle.machine.specs.State.{valueAt, outOfForm}
 use Rattle.machine.specs.Step.{stopped, completed, chosen, dataOf, entryDone, entryStep, instrStep, stepOf}
 use Rattle.machine.specs.Run.{final, goOn, stepsOf, judge, runOf}
-use Rattle.machine.specs.Trace.{traceOf, shownOf}
+use Rattle.machine.specs.Trace.{Shown, traceOf, shownOf}
 use Rattle.trace.specs.Seen.{seenIn}
 use Rattle.machine.specs.declared.State.{State}
 use Rattle.machine.specs.declared.Event.{Event}
@@ -37,8 +37,9 @@ use Rattle.trace.specs.declared.Seen.{Seen}
 use Rattle.laws.specs.Replies.{Stops, Replies}
 use Rattle.laws.specs.Form.{Form}
 use Rattle.laws.specs.Cut.{resume}
-use Rattle.laws.specs.Shows.{reachIn, Shows, Entered, Bits, Returned, backFrom, ChangedAt}
+use Rattle.laws.specs.Shows.{reachIn, Shows, costIn, Entered, Bits, Returned, backFrom, ChangedAt}
 use Rattle.laws.proofs.Keeps.{run-keeps}
+use Rattle.laws.proofs.Count.{counts}
 use Rattle.laws.proofs.Stops.{StepStops, step-stops, run-replies}
 use Rattle.laws.proofs.Cut.{cut}
 use Rattle.laws.proofs.Trace.{Told, told, entry-bits, return-bits, run-counted, nth-line}
@@ -105,9 +106,9 @@ pub a-line-for-each-step : (b : ℕ) (t : List ℕ) (s : State) (m k : List ℕ)
 a-line-for-each-step = run-counted
 
 -- .. and line i is the one that the step from what i steps left gives; z is any line.
-pub lines-of-the-steps : (b i : ℕ) (t : List ℕ) (s : State) (m k : List ℕ) (z : Line) → i < length (traceOf b 0 t s m k)
+pub lines-of-the-steps : (b i : ℕ) (t : List ℕ) (s : State) (m k : List ℕ) (z : Shown) → i < length (traceOf b 0 t s m k)
     → seenIn (stepOf (getD t i 0) (stepsOf i 0 t s m k .ended .state) (stepsOf i 0 t s m k .mem) (stepsOf i 0 t s m k .marks))
-    ≡ Seen.Step (getD (traceOf b 0 t s m k) i z)
+    ≡ Seen.Step (getD (traceOf b 0 t s m k) i z .line)
 lines-of-the-steps b i t s m k z h =
     let e : 0 + i ≡ i = omega arith in
     rw e at (nth-line b i 0 t s m k z h)
@@ -116,6 +117,11 @@ lines-of-the-steps b i t s m k z h =
 pub a-line-is-true : (t : ℕ) (s : State) (m k : List ℕ) (d : Done) (l j : List ℕ) (x : Line) → stepOf t s m k ≡ completed d l j x
     → (x .pc ≡ pcOf (s .control)) × Shows t s m k d x × ChangedAt (x .address) m l
 a-line-is-true t s m k d l j x e = subst (Told t s m k) e (told t s m k)
+
+-- .. and its cost raises the cycle count, modulo 2^32; nothing else changes that.
+pub a-step-counts : (t : ℕ) (s : State) (m k : List ℕ) (d : Done) (l j : List ℕ) (x : Line) (e : stepOf t s m k ≡ completed d l j x)
+    → d .control .cycles ≡ (s .control .cycles + costIn (a-line-is-true t s m k d l j x e .1)) % 2 ^ 32
+a-step-counts t s m k d l j x e = counts (a-line-is-true t s m k d l j x e .1)
 
 -- 8. An entry has its vector and its bits.
 pub an-entry-by-its-bits : (e : Entry) (c : Control) → Bits e c (entered e c)

@@ -19,7 +19,8 @@ use Rattle.isa.specs.declared.Instr.{Instr}
 use Rattle.isa.specs.declared.Decoded.{Decoded}
 use Rattle.cpu.specs.Control.{pcOf, withPc, withSfr, withPsw, withHwdbg, withPending, tf}
 use Rattle.cpu.specs.Entries.{enter, entered}
-use Rattle.cpu.specs.Exec.{onward, goTo, leave, exec, sourcesOf}
+use Rattle.cpu.specs.Exec.{onward, goTo, leave, makes, exec, sourcesOf}
+use Rattle.cpu.specs.Cycles.{costOf, entryCost}
 use Rattle.cpu.specs.declared.Control.{Control}
 use Rattle.cpu.specs.declared.Entry.{Entry}
 use Rattle.marks.specs.Marks.{taint, blocked}
@@ -35,13 +36,12 @@ use Rattle.instruction.specs.declared.Act.{Act}
 use Rattle.machine.specs.State.{valueAt}
 use Rattle.machine.specs.Step.{Stepped, stopped, completed, chosen, storedTo, dataOf, entryDone, doneOf, lineOf, actStep, instrStep, fetchStep, eventStep, stepOf, after}
 use Rattle.machine.specs.Run.{Final, goOn, stepsOf, judge, judged, runOf}
-use Rattle.machine.specs.Trace.{traceOn, traceOf, shown, shownOf}
+use Rattle.machine.specs.Trace.{Shown, traceOn, traceOf, shown, shownOf}
 use Rattle.trace.specs.Seen.{seenIn}
 use Rattle.machine.specs.declared.State.{State}
 use Rattle.machine.specs.declared.Event.{Event}
 use Rattle.machine.specs.declared.Judged.{Judged}
 use Rattle.machine.specs.declared.Data.{Data}
-use Rattle.machine.specs.declared.Line.{Line}
 use Rattle.trace.specs.declared.Seen.{Seen}
 use Rattle.laws.specs.Shows.{reachIn, effectIn, Shows, by-choice, by-instruction, by-fetch, by-data, Entered, Bits, Returned, backFrom, ChangedAt}
 
@@ -110,7 +110,7 @@ module _ (t : ℕ) (s : State) (m k : List ℕ) where
   module _ (i : Instr) (c : chosen t (s .control) ≡ Event.Instruction) (f : fetchOf (pcOf (s .control)) m k ≡ Fetched.Run i) where
     acted : (b u : Bool) (n : Taint) → outside (reachIn i s) m ≡ u
         → Told (actStep (cond b (Act.Halted Halt.MarkedOperand) (cond u (Act.Halted Halt.DataOutside) (Act.Does (effectIn i s m) n (reachIn i s)))) (dataOf (reachIn i s)) (valueAt s (sourcesOf i .first)) (s .flags) (s .control) m k)
-    unfolding doneOf lineOf entryDone onward withPc
+    unfolding doneOf lineOf entryDone onward withPc entryCost
     acted true u n o = tt
     acted false true n o = (refl, by-data i c f o refl refl refl, nothing-stored (dataOf (reachIn i s)))
     acted false false n o = (refl, by-instruction i c f o refl refl, stored-at (reachIn i s) (valueAt s (sourcesOf i .first) .value) m)
@@ -123,7 +123,7 @@ module _ (t : ℕ) (s : State) (m k : List ℕ) where
         acted (blocked i (y .mark) (s .flags)) (outside (reachIn i s) m) (taint i (x .mark) (y .mark) (loadedMark (reachIn i s) k) (tf (s .control)) (s .flags)) refl
 
   fetched : (x : Fetched) → FetchHalts x → chosen t (s .control) ≡ Event.Instruction → fetchOf (pcOf (s .control)) m k ≡ x → Told (fetchStep x s m k)
-  unfolding entryDone
+  unfolding entryDone entryCost
   fetched (Fetched.Halted Halt.FetchOutside) p c f = (refl, by-fetch c f refl refl refl, refl)
   fetched (Fetched.Halted Halt.FetchMarked) p c f = tt
   fetched (Fetched.Halted Halt.NoInstruction) p c f = tt
@@ -227,7 +227,7 @@ entry-bits Entry.DataError c =
 -- ---- the return from an entry
 
 pub return-bits : (c : Control) → Returned c (backFrom c)
-unfolding exec goTo leave withPc withSfr
+unfolding exec makes costOf goTo leave withPc withSfr
 return-bits c =
     let p : ℕ = c .psw in
     let one : ℕ = put p 3 1 (num (on p 6)) in
@@ -240,7 +240,7 @@ return-bits c =
 -- ---- the lines of a run
 
 -- what the steps counted, by the step that comes first
-counts-on : (rest : State → List ℕ → List ℕ → Final) (lines : State → List ℕ → List ℕ → List Line) (n : ℕ) (s : State) (m k : List ℕ) (x : Stepped)
+counts-on : (rest : State → List ℕ → List ℕ → Final) (lines : State → List ℕ → List ℕ → List Shown) (n : ℕ) (s : State) (m k : List ℕ) (x : Stepped)
     → ((u : State) (l j : List ℕ) → rest u l j .ended .steps ≡ n + 1 + length (lines u l j))
     → goOn rest n s m k x .ended .steps ≡ n + length (traceOn lines s x)
 unfolding goOn traceOn
@@ -262,24 +262,24 @@ run-counted b t s m k = go (judge b t s m k)
     go Judged.Good = omega (arith, counted b 0 t s m k)
 
 -- line i is the one that the step from what i steps left shows; z is any line
-module _ (lines : State → List ℕ → List ℕ → List Line) (s : State) (z : Line) where
-  first-line : (x : Stepped) → 0 < length (traceOn lines s x) → seenIn x ≡ Seen.Step (getD (traceOn lines s x) 0 z)
+module _ (lines : State → List ℕ → List ℕ → List Shown) (s : State) (z : Shown) where
+  first-line : (x : Stepped) → 0 < length (traceOn lines s x) → seenIn x ≡ Seen.Step (getD (traceOn lines s x) 0 z .line)
   unfolding traceOn
   first-line (stopped r) h = absurd (not-suc-le-zero h)
   first-line (completed d l j y) h = refl
 
   later-line : (rest : State → List ℕ → List ℕ → Final) (tape i n : ℕ) (m k : List ℕ) (x : Stepped) → suc i < length (traceOn lines s x)
       → ((u : State) (l j : List ℕ) → i < length (lines u l j)
-      → seenIn (stepOf tape (rest u l j .ended .state) (rest u l j .mem) (rest u l j .marks)) ≡ Seen.Step (getD (lines u l j) i z))
+      → seenIn (stepOf tape (rest u l j .ended .state) (rest u l j .mem) (rest u l j .marks)) ≡ Seen.Step (getD (lines u l j) i z .line))
       → seenIn (stepOf tape (goOn rest n s m k x .ended .state) (goOn rest n s m k x .mem) (goOn rest n s m k x .marks))
-      ≡ Seen.Step (getD (traceOn lines s x) (suc i) z)
+      ≡ Seen.Step (getD (traceOn lines s x) (suc i) z .line)
   unfolding traceOn goOn
   later-line rest tape i n m k (stopped r) h f = absurd (not-suc-le-zero h)
   later-line rest tape i n m k (completed d l j y) h f = f (after d s) l j (omega arith)
 
-pub nth-line : (b i n : ℕ) (t : List ℕ) (s : State) (m k : List ℕ) (z : Line) → i < length (traceOf b n t s m k)
+pub nth-line : (b i n : ℕ) (t : List ℕ) (s : State) (m k : List ℕ) (z : Shown) → i < length (traceOf b n t s m k)
     → seenIn (stepOf (getD t (n + i) 0) (stepsOf i n t s m k .ended .state) (stepsOf i n t s m k .mem) (stepsOf i n t s m k .marks))
-    ≡ Seen.Step (getD (traceOf b n t s m k) i z)
+    ≡ Seen.Step (getD (traceOf b n t s m k) i z .line)
 unfolding stepsOf traceOf
 nth-line zero i n t s m k z h = absurd (not-suc-le-zero h)
 nth-line (suc b) zero n t s m k z h =

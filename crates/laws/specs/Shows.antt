@@ -11,7 +11,8 @@ use Rattle.word.specs.Addresses.{alignedOf}
 use Rattle.word.specs.declared.Width.{Width}
 use Rattle.isa.specs.declared.Instr.{Instr}
 use Rattle.cpu.specs.Control.{pcOf}
-use Rattle.cpu.specs.Entries.{vector, entered, fallen}
+use Rattle.cpu.specs.Entries.{vector, entered, passed}
+use Rattle.cpu.specs.Cycles.{entryCost}
 use Rattle.cpu.specs.Exec.{onward, exec, sourcesOf}
 use Rattle.cpu.specs.declared.Control.{Control}
 use Rattle.cpu.specs.declared.Effect.{Effect}
@@ -38,23 +39,31 @@ effectIn i s m = exec i (valueAt s (sourcesOf i .first) .value) (valueAt s (sour
 
 -- A completed step made d from state s, memory m and marks k on, with the tape's byte t, and shows line x. The entry that the line names is the one that was
 -- made: on the control part before the step if an entry was chosen or the fetch was a bus error, on what the instruction left if one was done, and at the next
--- instruction if its data were outside memory; then the timer fell or not.
+-- instruction if its data were outside memory; then the step's cost went by, and the timer fell or not.
 pub data Shows (t : ℕ) (s : State) (m k : List ℕ) (d : Done) (x : Line) : Type 0 where
   by-choice : chosen t (s .control) ≡ Event.Enter (x .entry) → x .address ≡ Data.Nowhere
-      → d .control ≡ fallen (on (s .control .psw) 4) (entered (x .entry) (s .control))
+      → d .control ≡ passed (on (s .control .psw) 4) (entryCost (x .entry)) (entered (x .entry) (s .control))
       → Shows t s m k d x
   by-instruction : (i : Instr) → chosen t (s .control) ≡ Event.Instruction → fetchOf (pcOf (s .control)) m k ≡ Fetched.Run i
       → outside (reachIn i s) m ≡ false → x .address ≡ dataOf (reachIn i s)
-      → d .control ≡ fallen (on (s .control .psw) 4 && not (effectIn i s m .wrote)) (entered (x .entry) (effectIn i s m .control))
+      → d .control
+      ≡ passed (on (s .control .psw) 4 && not (effectIn i s m .wrote)) (effectIn i s m .cost + entryCost (x .entry)) (entered (x .entry) (effectIn i s m .control))
       → Shows t s m k d x
   by-fetch : chosen t (s .control) ≡ Event.Instruction → fetchOf (pcOf (s .control)) m k ≡ Fetched.Halted Halt.FetchOutside
       → x .entry ≡ Entry.FetchError → x .address ≡ Data.Nowhere
-      → d .control ≡ fallen (on (s .control .psw) 4) (entered Entry.FetchError (s .control))
+      → d .control ≡ passed (on (s .control .psw) 4) 4 (entered Entry.FetchError (s .control))
       → Shows t s m k d x
   by-data : (i : Instr) → chosen t (s .control) ≡ Event.Instruction → fetchOf (pcOf (s .control)) m k ≡ Fetched.Run i
       → outside (reachIn i s) m ≡ true → x .entry ≡ Entry.DataError → x .address ≡ dataOf (reachIn i s)
-      → d .control ≡ fallen (on (s .control .psw) 4) (entered Entry.DataError (onward 2 (s .control)))
+      → d .control ≡ passed (on (s .control .psw) 4) 4 (entered Entry.DataError (onward 2 (s .control)))
       → Shows t s m k d x
+
+-- what that step cost in cycles (document 02, ticket 6)
+abbrev pub costIn : {t : ℕ} {s : State} {m k : List ℕ} {d : Done} {x : Line} → Shows t s m k d x → ℕ
+costIn {x = x} (by-choice c a e) = entryCost (x .entry)
+costIn {s = s} {m = m} {x = x} (by-instruction i c f o a e) = effectIn i s m .cost + entryCost (x .entry)
+costIn (by-fetch c f n a e) = 4
+costIn (by-data i c f o n a e) = 4
 
 -- an entry by its vector and its bits, from control part c to n: IPC, IP and BIP, the program counter, and what its kind sets
 pub record Entered (low : ℕ) (c n : Control) : Type 0 where

@@ -18,8 +18,10 @@ use Rattle.isa.specs.declared.Kind.{Kind}
 use Rattle.isa.specs.declared.Instr.{Instr}
 use Rattle.isa.proofs.Rows.{and-left, and-right}
 use Rattle.cpu.specs.Control.{pcOf, withPc, tf}
-use Rattle.cpu.specs.Entries.{entered, isBreak, fallen}
-use Rattle.cpu.specs.Exec.{noReg, onward, exec, sourcesOf}
+use Rattle.cpu.specs.Entries.{entered, isBreak, passed}
+use Rattle.cpu.specs.Cycles.{entryCost}
+use Rattle.cpu.specs.Exec.{noReg, onward, makes, exec, sourcesOf}
+use Rattle.cpu.specs.Cycles.{costOf}
 use Rattle.cpu.specs.declared.Control.{Control}
 use Rattle.cpu.specs.declared.Effect.{Effect}
 use Rattle.cpu.specs.declared.Entry.{Entry}
@@ -132,7 +134,7 @@ module _ (s : State) (m k : List ℕ) where
       ∙ ap₂ (λ (x : Act) (y : Data). actStep x y (valueAt s (nibC h)) (s .flags) (s .control) m k) e d
 
   served-by : (d : Kind) (h b : ℕ) → Served (decodedTo (operandsOf d h b)) h
-  unfolding operandsOf sourcesOf actOf blocked reachOf exec taint
+  unfolding operandsOf sourcesOf actOf blocked reachOf exec makes costOf taint
   served-by Kind.Nothing h b = refl
   served-by (Kind.Alu op) h b = serves _ h refl refl (refl, refl)
   served-by (Kind.ShiftImm op) h b = serves _ h refl refl (refl, refl)
@@ -227,12 +229,12 @@ halt-enters : (h : Halt) (a : Data) (f : Flags) (c : Control) (m k : List ℕ) (
     → (outIn (haltStep h a f c m k) ≡ goes (entered-to n f)) × (memIn m (haltStep h a f c m k) ≡ m) × (marksIn k (haltStep h a f c m k) ≡ k)
 unfolding entryDone entered-to onward withPc
 halt-enters Halt.FetchOutside a f c m k n e =
-    let q : fallen (on (c .psw) 4) (entered Entry.FetchError c) ≡ n = cc in (ap (λ (u : Control). goes (entered-to u f)) q, refl, refl)
+    let q : passed (on (c .psw) 4) (entryCost Entry.FetchError) (entered Entry.FetchError c) ≡ n = cc in (ap (λ (u : Control). goes (entered-to u f)) q, refl, refl)
 halt-enters Halt.FetchMarked a f c m k n e = let z : _≡_ {A = ℕ} 0 1 = cc in absurd (omega arith)
 halt-enters Halt.NoInstruction a f c m k n e = let z : _≡_ {A = ℕ} 0 1 = cc in absurd (omega arith)
 halt-enters Halt.MarkedOperand a f c m k n e = let z : _≡_ {A = ℕ} 0 1 = cc in absurd (omega arith)
 halt-enters Halt.DataOutside a f c m k n e =
-    let q : fallen (on (c .psw) 4) (entered Entry.DataError (onward 2 c)) ≡ n = cc in (ap (λ (u : Control). goes (entered-to u f)) q, refl, refl)
+    let q : passed (on (c .psw) 4) (entryCost Entry.DataError) (entered Entry.DataError (onward 2 c)) ≡ n = cc in (ap (λ (u : Control). goes (entered-to u f)) q, refl, refl)
 
 -- an instruction by what it answers
 act-halts : (q : Act) (a : Data) (x : Val) (f : Flags) (c : Control) (m k : List ℕ) (h : Halt) → Out.Halted h ≡ actOut q c

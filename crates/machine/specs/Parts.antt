@@ -6,7 +6,8 @@ use mathlib.Core.List.{List}
 use Rattle.word.specs.Bits.{on}
 use Rattle.isa.specs.Codes.{kindOf}
 use Rattle.cpu.specs.Control.{pcOf}
-use Rattle.cpu.specs.Entries.{entered, fallen}
+use Rattle.cpu.specs.Entries.{entered, passed}
+use Rattle.cpu.specs.Cycles.{entryCost}
 use Rattle.cpu.specs.Exec.{onward}
 use Rattle.cpu.specs.declared.Control.{Control}
 use Rattle.cpu.specs.declared.Entry.{Entry}
@@ -51,7 +52,7 @@ marksIn k (completed d l j x) = j
 -- ---- what comes of an instruction that is not done, without the line that it shows
 
 abbrev pub enters : Entry → Control → Control → Halted
-enters e c n = Halted.Enter (fallen (on (c .psw) 4) (entered e n))
+enters e c n = Halted.Enter (passed (on (c .psw) 4) (entryCost e) (entered e n))
 
 abbrev pub haltedTo : Halt → Control → Halted
 haltedTo Halt.FetchOutside c = enters Entry.FetchError c c
@@ -67,7 +68,7 @@ begunHalf (Half.Halted h) = Begun.Halted h
 begunHalf (Half.Bits h) = Begun.Half h
 
 abbrev pub begunBy : Event → Control → List ℕ → List ℕ → Begun
-begunBy (Event.Enter e) c m k = Begun.Enter (fallen (on (c .psw) 4) (entered e c))
+begunBy (Event.Enter e) c m k = Begun.Enter (passed (on (c .psw) 4) (entryCost e) (entered e c))
 begunBy Event.Instruction c m k = begunHalf (firstHalf (pcOf c) m k)
 
 unfoldable pub begunOf : ℕ → Control → List ℕ → List ℕ → Begun

@@ -19,8 +19,9 @@ pub record Final : Type 0 where
   pub mem : List ℕ
   pub marks : List ℕ
 
+-- "a cycle count .. in the state ..; the result repeats it" (document 02, ticket 6)
 abbrev pub final : Reply → ℕ → State → List ℕ → List ℕ → Final
-final r n s m k = record { ended = record { state = s; steps = n; reply = r }; mem = m; marks = k }
+final r n s m k = record { ended = record { state = s; steps = n; reply = r; cycles = s .control .cycles }; mem = m; marks = k }
 
 -- "1 memory length is 0, above 65,536, or no multiple of 4"
 abbrev pub badLength : ℕ → Bool

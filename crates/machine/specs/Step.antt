@@ -8,7 +8,8 @@ use lib.ListN.{set}
 use Rattle.word.specs.Bits.{on}
 use Rattle.word.specs.Bytes.{storeOf}
 use Rattle.cpu.specs.Control.{pcOf}
-use Rattle.cpu.specs.Entries.{entered, isBreak, watchEntry, fallen}
+use Rattle.cpu.specs.Entries.{entered, isBreak, watchEntry, passed}
+use Rattle.cpu.specs.Cycles.{entryCost}
 use Rattle.cpu.specs.Exec.{noReg, onward, sourcesOf}
 use Rattle.cpu.specs.declared.Control.{Control}
 use Rattle.cpu.specs.declared.Effect.{Effect}
@@ -87,11 +88,11 @@ pub data Stepped : Type 0 where
   stopped : Reply → Stepped
   completed : Done → List ℕ → List ℕ → Line → Stepped
 
--- an entry, and the timer's fall; it changes no register
+-- an entry, its cost and the timer's fall by it; it changes no register
 unfoldable pub entryDone : Entry → Flags → Control → Done
 entryDone e f c =
     record {
-      control = fallen (on (c .psw) 4) (entered e c);
+      control = passed (on (c .psw) 4) (entryCost e) (entered e c);
       flags = f;
       reg = noReg;
       value = 0;
@@ -111,11 +112,12 @@ haltStep Halt.MarkedOperand a f c m k = stopped Reply.MarkedOperand
 haltStep Halt.DataOutside a f c m k =
     completed (entryDone Entry.DataError f (onward 2 c)) m k (record { pc = pcOf c; entry = Entry.DataError; address = a })
 
--- an instruction from control part c on: the entry that it makes, and the timer's fall by TE at the step's start
+-- an instruction from control part c on: the entry that it makes, the cost of both, and the timer's fall by TE at the step's start
 unfoldable pub doneOf : Control → Effect → Taint → Reach → Done
 doneOf c e t r =
     record {
-      control = fallen (on (c .psw) 4 && not (e .wrote)) (entered (entryBy r (e .control)) (e .control));
+      control =
+          passed (on (c .psw) 4 && not (e .wrote)) (e .cost + entryCost (entryBy r (e .control))) (entered (entryBy r (e .control)) (e .control));
       flags = t .flags;
       reg = e .reg;
       value = e .value;

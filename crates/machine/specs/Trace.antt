@@ -1,4 +1,4 @@
--- The trace of a run: the lines that its completed steps gave, in order.
+-- The trace of a run: what its completed steps showed, in order.
 -- Assumes nothing.
 use Prim.Native.Nat.{ℕ, zero, suc, _+_}
 use mathlib.Core.List.{List, [], _∷_}
@@ -9,19 +9,24 @@ use Rattle.machine.specs.declared.State.{State}
 use Rattle.machine.specs.declared.Judged.{Judged}
 use Rattle.machine.specs.declared.Line.{Line}
 
--- from state s on, as goOn of Run.antt
-unfoldable pub traceOn : (State → List ℕ → List ℕ → List Line) → State → Stepped → List Line
-traceOn rest s (stopped r) = []
-traceOn rest s (completed d m k x) = x ∷ rest (after d s) m k
+-- what a completed step shows: its line, and the cycle count after it (document 02, ticket 6: "Demand 3 then also promises equal cycle counts")
+pub record Shown : Type 0 where
+  pub line : Line
+  pub cycles : ℕ
 
-unfoldable pub traceOf : ℕ → ℕ → List ℕ → State → List ℕ → List ℕ → List Line
+-- from state s on, as goOn of Run.antt
+unfoldable pub traceOn : (State → List ℕ → List ℕ → List Shown) → State → Stepped → List Shown
+traceOn rest s (stopped r) = []
+traceOn rest s (completed d m k x) = record { line = x; cycles = d .control .cycles } ∷ rest (after d s) m k
+
+unfoldable pub traceOf : ℕ → ℕ → List ℕ → State → List ℕ → List ℕ → List Shown
 traceOf zero n t s m k = []
 traceOf (suc b) n t s m k = traceOn (traceOf b (n + 1) t) s (stepOf (getD t n 0) s m k)
 
 -- a refused run shows nothing
-abbrev pub shown : Judged → ℕ → List ℕ → State → List ℕ → List ℕ → List Line
+abbrev pub shown : Judged → ℕ → List ℕ → State → List ℕ → List ℕ → List Shown
 shown (Judged.Refused r) b t s m k = []
 shown Judged.Good b t s m k = traceOf b 0 t s m k
 
-unfoldable pub shownOf : ℕ → List ℕ → State → List ℕ → List ℕ → List Line
+unfoldable pub shownOf : ℕ → List ℕ → State → List ℕ → List ℕ → List Shown
 shownOf b t s m k = shown (judge b t s m k) b t s m k

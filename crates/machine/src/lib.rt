@@ -78,4 +78,5 @@ pub struct Ended {
     pub state: State,
     pub steps: usize,
     pub reply: Reply,
+    pub cycles: u32,
 }

@@ -36,8 +36,9 @@ fn end_at(
     steps: usize,
     reply: Reply,
 ) -> Ended
-    ensures { λ r. ⌜ r ≡ record { state = stateOf regs marks (flags tf cy) control; steps = steps; reply = reply } ⌝ }
+    ensures { λ r. ⌜ r ≡ record { state = stateOf regs marks (flags tf cy) control; steps = steps; reply = reply; cycles = control .cycles } ⌝ }
 {
+    let cycles = control.cycles;
     let state = State {
         regs,
         marks,
@@ -48,6 +49,7 @@ fn end_at(
         state,
         steps,
         reply,
+        cycles,
     }
 }
 
@@ -145,6 +147,7 @@ pub fn run(b: usize, t: &[u8], s: State, m: &mut [u8], k: &mut [u8]) -> Ended
             state: s,
             steps: 0,
             reply,
+            cycles: s.control.cycles,
         },
         Judged::Good => steps(b, t, s, m, k),
     }

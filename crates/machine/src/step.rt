@@ -2,7 +2,8 @@
 ghost use mathlib.Core.Path.{_≡_};
 ghost use Prim.Native.Nat.{ℕ};
 ghost use Rattle.word.specs.Bits.{on};
-ghost use Rattle.cpu.specs.Entries.{entered, fallen};
+ghost use Rattle.cpu.specs.Entries.{entered, passed};
+ghost use Rattle.cpu.specs.Cycles.{entryCost};
 ghost use Rattle.instruction.specs.Parts.{val, flags};
 ghost use Rattle.machine.specs.Step.{storedTo, markedTo, entryBy, doneOf};
 ghost use Rattle.machine.specs.Parts.{haltedTo, begunOf, actOut, actMem, actMarks, halfAct};
@@ -27,9 +28,10 @@ use marks::Taint;
 use word::ByteAddr;
 
 fn enter(e: Entry, c: Control) -> Begun
-    ensures { λ r. ⌜ r ≡ Begun.Enter (fallen (on (c .psw) 4) (entered e c)) ⌝ }
+    ensures { λ r. ⌜ r ≡ Begun.Enter (passed (on (c .psw) 4) (entryCost e) (entered e c)) ⌝ }
 {
-    Begun::Enter(cpu::fall(word::is_on(c.psw, 4), cpu::enter(e, c)))
+    let cost = cpu::entry_cost(e) as u32;
+    Begun::Enter(cpu::pass(word::is_on(c.psw, 4), cost, cpu::enter(e, c)))
 }
 
 // What comes of an instruction that is not done, from control part c on.
@@ -38,11 +40,11 @@ pub fn halt(h: Halt, c: Control) -> Halted
 {
     let te = word::is_on(c.psw, 4);
     match h {
-        Halt::FetchOutside => Halted::Enter(cpu::fall(te, cpu::fetch_error(c))),
+        Halt::FetchOutside => Halted::Enter(cpu::pass(te, 4, cpu::fetch_error(c))),
         Halt::FetchMarked => Halted::Stop(Reply::FetchMarked),
         Halt::NoInstruction => Halted::Stop(Reply::NoInstruction),
         Halt::MarkedOperand => Halted::Stop(Reply::MarkedOperand),
-        Halt::DataOutside => Halted::Enter(cpu::fall(te, cpu::data_error(c))),
+        Halt::DataOutside => Halted::Enter(cpu::pass(te, 4, cpu::data_error(c))),
     }
 }
 
@@ -86,13 +88,26 @@ fn enter_by(r: Reach, c: Control) -> Control
     }
 }
 
+// What that entry adds to the instruction's cost.
+fn cost_by(r: Reach, c: Control) -> u8
+    ensures { λ n. ⌜ n ≡ entryCost (entryBy r c) ⌝ }
+{
+    match r {
+        Reach::Nowhere => 0,
+        Reach::Reads(_, a) => cpu::watch_cost(a, c),
+        Reach::Writes(_, a) => cpu::watch_cost(a, c),
+        Reach::Raises(_) => 0,
+    }
+}
+
 fn finish(c: Control, e: Effect, t: Taint, r: Reach) -> Done
     ensures { λ d. ⌜ d ≡ doneOf c e t r ⌝ }
 {
     let made = e.control;
     let te = word::both(word::is_on(c.psw, 4), !e.wrote);
+    let cost = e.cost as u32 + cost_by(r, made) as u32;
     Done {
-        control: cpu::fall(te, enter_by(r, made)),
+        control: cpu::pass(te, cost, enter_by(r, made)),
         flags: Flags {
             tf: t.flags.tf,
             cy: t.flags.cy,

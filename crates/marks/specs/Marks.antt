@@ -103,9 +103,28 @@ longBlocked LongOp.Jt f = f .tf
 longBlocked LongOp.J f = false
 longBlocked LongOp.Jl f = false
 
+-- "a register shift with its amount register marked becomes stop 14" (document 02, ticket 6)
+unfoldable pub aluBlocked : AluOp → Bool → Bool
+aluBlocked AluOp.Sub my = false
+aluBlocked AluOp.Add my = false
+aluBlocked AluOp.Subc my = false
+aluBlocked AluOp.Addc my = false
+aluBlocked AluOp.Mov my = false
+aluBlocked AluOp.And my = false
+aluBlocked AluOp.Or my = false
+aluBlocked AluOp.Xor my = false
+aluBlocked AluOp.Sxb my = false
+aluBlocked AluOp.Xhw my = false
+aluBlocked AluOp.Sxh my = false
+aluBlocked AluOp.Zxh my = false
+aluBlocked AluOp.Lsl my = my
+aluBlocked AluOp.Lsr my = my
+aluBlocked AluOp.Asr my = my
+aluBlocked AluOp.Mult my = false
+
 -- "Stop 14: ..; jr, jrl, any mtsfr, and any load or store base, with that register marked; jsfr of PSW with TF or CY marked"
 unfoldable pub blocked : Instr → Bool → Flags → Bool
-blocked (Instr.Alu op d b) my f = false
+blocked (Instr.Alu op d b) my f = aluBlocked op my
 blocked (Instr.ShiftImm op d n) my f = false
 blocked (Instr.Cmp op d b) my f = false
 blocked (Instr.CmpImm op d n) my f = false

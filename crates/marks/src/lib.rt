@@ -3,7 +3,7 @@ ghost use mathlib.Core.Path.{_≡_};
 ghost use mathlib.Core.Bool.{false, cond, _||_};
 ghost use Rattle.isa.specs.declared.Instr.{Instr};
 ghost use Rattle.word.specs.Bits.{num};
-ghost use Rattle.marks.specs.Marks.{aluMark, aluFlags, condMark, immMark, sfrMark, with, taint, shortBlocked, longBlocked};
+ghost use Rattle.marks.specs.Marks.{aluMark, aluFlags, condMark, immMark, sfrMark, with, taint, aluBlocked, shortBlocked, longBlocked};
 ghost use Rattle.marks.specs.Memory.{markedAt, markAll, badMark};
 use isa::AluOp;
 use isa::CondOp;
@@ -134,6 +134,30 @@ pub fn mark_mtsfr(n: u32, tf: bool, cy: bool) -> Taint
 }
 
 // ---- stop 14
+
+// A shift by register shows its amount in the time that it takes.
+pub fn is_alu_blocked(op: AluOp, my: bool) -> bool
+    ensures { λ r. ⌜ r ≡ aluBlocked op my ⌝ }
+{
+    match op {
+        AluOp::Sub => false,
+        AluOp::Add => false,
+        AluOp::Subc => false,
+        AluOp::Addc => false,
+        AluOp::Mov => false,
+        AluOp::And => false,
+        AluOp::Or => false,
+        AluOp::Xor => false,
+        AluOp::Sxb => false,
+        AluOp::Xhw => false,
+        AluOp::Sxh => false,
+        AluOp::Zxh => false,
+        AluOp::Lsl => my,
+        AluOp::Lsr => my,
+        AluOp::Asr => my,
+        AluOp::Mult => false,
+    }
+}
 
 pub fn is_short_blocked(op: ShortOp, tf: bool, cy: bool) -> bool
     ensures { λ r. ⌜ r ≡ shortBlocked op (record { tf = tf; cy = cy }) ⌝ }

@@ -17,7 +17,7 @@ use Rattle.isa.specs.declared.ShortOp.{ShortOp}
 use Rattle.isa.specs.declared.LongOp.{LongOp}
 use Rattle.isa.specs.declared.Instr.{Instr}
 use Rattle.instruction.specs.declared.Reach.{Reach}
-use Rattle.marks.specs.Marks.{aluMark, aluFlags, condMark, immMark, sfrMark, with, taint, shortBlocked, longBlocked, blocked}
+use Rattle.marks.specs.Marks.{aluMark, aluFlags, condMark, immMark, sfrMark, with, taint, aluBlocked, shortBlocked, longBlocked, blocked}
 use Rattle.marks.specs.Memory.{badMark}
 use Rattle.word.specs.Bytes.{anyAbove}
 use Rattle.marks.specs.declared.Flags.{Flags}
@@ -160,6 +160,25 @@ taint-off (Instr.Swint n) s = refl
 taint-off (Instr.ShortJump op d) s = refl
 taint-off (Instr.LongJump op d) s = refl
 
+alu-clear : (op : AluOp) → aluBlocked op false ≡ false
+unfolding aluBlocked
+alu-clear AluOp.Sub = refl
+alu-clear AluOp.Add = refl
+alu-clear AluOp.Subc = refl
+alu-clear AluOp.Addc = refl
+alu-clear AluOp.Mov = refl
+alu-clear AluOp.And = refl
+alu-clear AluOp.Or = refl
+alu-clear AluOp.Xor = refl
+alu-clear AluOp.Sxb = refl
+alu-clear AluOp.Xhw = refl
+alu-clear AluOp.Sxh = refl
+alu-clear AluOp.Zxh = refl
+alu-clear AluOp.Lsl = refl
+alu-clear AluOp.Lsr = refl
+alu-clear AluOp.Asr = refl
+alu-clear AluOp.Mult = refl
+
 short-off : (op : ShortOp) → shortBlocked op none ≡ false
 unfolding shortBlocked
 short-off ShortOp.Sjf = refl
@@ -175,7 +194,7 @@ long-off LongOp.Jl = refl
 
 pub blocked-off : (i : Instr) → blocked i false none ≡ false
 unfolding blocked
-blocked-off (Instr.Alu op d b) = refl
+blocked-off (Instr.Alu op d b) = alu-clear op
 blocked-off (Instr.ShiftImm op d n) = refl
 blocked-off (Instr.Cmp op d b) = refl
 blocked-off (Instr.CmpImm op d n) = refl

@@ -4,6 +4,7 @@ use Prim.Native.Nat.{ℕ, zero, suc, _+_}
 use mathlib.Core.Path.{_≡_, refl, sym, ap₂, subst}
 use mathlib.Core.Bool.{Bool, true, false, cond, _&&_}
 use mathlib.Core.List.{List}
+use native.Mathlib.Omega.{arith}
 use lib.ListN.{length, getD, set, replicate}
 use borrow.Author.Tests.{eq-eqb}
 use Rattle.word.specs.Bits.{on}
@@ -13,6 +14,7 @@ use Rattle.isa.specs.declared.Decoded.{Decoded}
 use Rattle.isa.specs.declared.Instr.{Instr}
 use Rattle.cpu.specs.Control.{pcOf, withPc, tf}
 use Rattle.cpu.specs.Entries.{entered}
+use Rattle.cpu.specs.Cycles.{entryCost}
 use Rattle.cpu.specs.Exec.{onward, exec, sourcesOf}
 use Rattle.cpu.specs.declared.Control.{Control}
 use Rattle.cpu.specs.declared.Effect.{Effect}
@@ -52,6 +54,9 @@ data Agree (s : Core) (k : List ℕ) : Stepped → Outcome → Type 0 where
       → Agree s k (made (record { control = c; flags = none; reg = r; value = v; mark = false }) l k x)
       (completed (record { regs = set (s .regs) r v; control = c }) l)
 
+plus-zero : (n : ℕ) → n + 0 ≡ n
+plus-zero n = omega arith
+
 and-true : (b : Bool) → (b && true) ≡ b
 and-true true = refl
 and-true false = refl
@@ -72,8 +77,8 @@ module _ (k : List ℕ) (z : (i : ℕ) → getD k i 0 ≡ 0) where
   -- an entry on a control part that has the same TE
   enters-same : (e : Entry) (c : Control) (s : Core) (m : List ℕ) (x : Line) → on (c .psw) 4 ≡ on (s .control .psw) 4
       → Agree s k (made (entryDone e none c) m k x) (enters e c s m)
-  unfolding changed entryDone entered
-  enters-same e c s m x p = rw (p, and-true (on (s .control .psw) 4)) (goes _ _ _ _ _)
+  unfolding changed entryDone entered entryCost
+  enters-same e c s m x p = rw (p, and-true (on (s .control .psw) 4), plus-zero (entryCost e)) (goes _ _ _ _ _)
 
   halts-same : (h : Halt) (a : Data) (s : Core) (m : List ℕ) → Agree s k (haltStep h a none (s .control) m k) (halts h s m)
   unfolding onward withPc

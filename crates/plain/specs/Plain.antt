@@ -1,6 +1,6 @@
 -- The machine without marks: "a second definition by the same rules, with no mark in its state or its steps" (document 01, "Holding the statements to the
 -- machine"). It has a state, a fetch, a step, refusals and a run of its own. Shared with the machine with marks are rules that neither read nor make a mark: the decoder
--- (decodeOf, halfAt), the choice of a step (chosen), entries and the timer's fall (entered, entryBy, fallen), what an instruction does to values (exec, sourcesOf), where it
+-- (decodeOf, halfAt), the choice of a step (chosen), entries, their cost and the timer's fall (entered, entryBy, entryCost, passed), what an instruction does to values (exec, sourcesOf), where it
 -- reaches (reachOf, outside, loadedFrom, storedTo), and the tests of refusals 1, 4 and 6 (badLength, outOfForm, anyAbove). What marks add is not here: no mark slice, no
 -- marks of registers and flags, and of the replies none of 2, 3, 12 and 14.
 -- Assumes nothing.
@@ -17,8 +17,9 @@ use Rattle.isa.specs.Decode.{decodeOf}
 use Rattle.isa.specs.declared.Decoded.{Decoded}
 use Rattle.isa.specs.declared.Instr.{Instr}
 use Rattle.cpu.specs.Control.{pcOf}
-use Rattle.cpu.specs.Entries.{entered, fallen}
-use Rattle.cpu.specs.Exec.{onward, moves, exec, sourcesOf}
+use Rattle.cpu.specs.Entries.{entered, passed}
+use Rattle.cpu.specs.Cycles.{entryCost}
+use Rattle.cpu.specs.Exec.{onward, moves, costing, exec, sourcesOf}
 use Rattle.cpu.specs.declared.Control.{Control}
 use Rattle.cpu.specs.declared.Effect.{Effect}
 use Rattle.cpu.specs.declared.Entry.{Entry}
@@ -72,12 +73,13 @@ unfoldable pub changed : Core → Effect → Reach → Core
 changed s e r =
     record {
       regs = set (s .regs) (e .reg) (e .value);
-      control = fallen (on (s .control .psw) 4 && not (e .wrote)) (entered (entryBy r (e .control)) (e .control));
+      control =
+          passed (on (s .control .psw) 4 && not (e .wrote)) (e .cost + entryCost (entryBy r (e .control))) (entered (entryBy r (e .control)) (e .control));
     }
 
--- an entry, made on control part c, which reaches no register and no memory, with the timer's fall
+-- an entry, made on control part c, which reaches no register and no memory, with its cost and the timer's fall
 abbrev pub enters : Entry → Control → Core → List ℕ → Outcome
-enters e c s m = completed (changed s (moves (entered e c)) Reach.Nowhere) m
+enters e c s m = completed (changed s (costing (entryCost e) (moves (entered e c))) Reach.Nowhere) m
 
 -- what comes of an instruction that is not done: a bus error's entry, at the instruction's own address or at the next one (document 02, ticket 5), or a stop
 abbrev pub halts : Halt → Core → List ℕ → Outcome

@@ -1,16 +1,16 @@
 -- The control part in two runs: each way to change it keeps SameControl.
 -- Assumes nothing.
-use Prim.Native.Nat.{ℕ, _-_}
-use mathlib.Core.Path.{_≡_, refl, sym, ap, ap₂, _∙_}
+use Prim.Native.Nat.{ℕ, _+_, _-_, _%_, _^_}
+use mathlib.Core.Path.{_≡_, refl, sym, ap, ap₂, subst, _∙_}
 use mathlib.Core.Bool.{Bool, true, false, cond, not, Bool·beq, _&&_, _||_}
 use native.Mathlib.Omega.{arith}
-use lib.Dec.{ltb, eqb, lit≤}
+use lib.Dec.{ltb, eqb, leb, lit≤}
 use Rattle.word.specs.Bits.{num, on, fieldOf, withField}
 use Rattle.word.specs.Numbers.{lslOf}
 use Rattle.word.specs.declared.ByteAddr.{ByteAddr}
 use Rattle.word.specs.declared.HalfDisp.{HalfDisp}
-use Rattle.cpu.specs.Control.{withPc, withSfr, withPsw, withPending, withTimer, withTf, withCy}
-use Rattle.cpu.specs.Entries.{enter, entered, isBreak, watchHit, watchEntry, fallen}
+use Rattle.cpu.specs.Control.{withPc, withSfr, withPsw, withPending, withTimer, withCycles, withTf, withCy}
+use Rattle.cpu.specs.Entries.{enter, entered, isBreak, watchHit, watchEntry, fallen, passed}
 use Rattle.cpu.specs.Exec.{onward, goTo, linked, jump, branch, accepted, timerWritten, written, leave}
 use Rattle.cpu.specs.declared.Control.{Control}
 use Rattle.cpu.specs.declared.Entry.{Entry}
@@ -79,18 +79,34 @@ module _ {f : Flags} {a b : Control} (s : SameControl f a b) where
   unfolding jump withPc withSfr
   jumps d = record { rest = ap (jump d) (s .rest); psw = s .psw }
 
-  falls-once : SameControl f (withTimer a (a .timer - 1) (a .pending || eqb (a .timer) 1)) (withTimer b (b .timer - 1) (b .pending || eqb (b .timer) 1))
+  falls-once : (n : ℕ) → SameControl f (withTimer a (a .timer - n) (a .pending || leb (a .timer) n)) (withTimer b (b .timer - n) (b .pending || leb (b .timer) n))
   unfolding withSfr withPending
-  falls-once = record { rest = ap (λ (c : Control). withTimer c (c .timer - 1) (c .pending || eqb (c .timer) 1)) (s .rest); psw = s .psw }
+  falls-once n = record { rest = ap (λ (c : Control). withTimer c (c .timer - n) (c .pending || leb (c .timer) n)) (s .rest); psw = s .psw }
 
   runs : (t u : Bool) → t ≡ u → (t && ltb 0 (a .timer)) ≡ (u && ltb 0 (b .timer))
   unfolding withSfr
   runs t u e = ap₂ (λ (x : Bool) (c : Control). x && ltb 0 (c .timer)) e (s .rest)
 
-  pub falls : (t u : Bool) → t ≡ u → SameControl f (fallen t a) (fallen u b)
+  falls : (t u : Bool) (n : ℕ) → t ≡ u → SameControl f (fallen t n a) (fallen u n b)
   unfolding fallen
-  falls t u e = pick (t && ltb 0 (a .timer)) (u && ltb 0 (b .timer)) (runs t u e) falls-once s
+  falls t u n e = pick (t && ltb 0 (a .timer)) (u && ltb 0 (b .timer)) (runs t u e) (falls-once n) s
 
+  counts : (n : ℕ) → SameControl f (withCycles a n) (withCycles b n)
+  unfolding withCycles withSfr
+  counts n = record { rest = ap (λ (c : Control). withCycles c n) (s .rest); psw = s .psw }
+
+  pub cycles-same : a .cycles ≡ b .cycles
+  unfolding withSfr
+  cycles-same = ap (λ (c : Control). c .cycles) (s .rest)
+
+-- a step's cost goes by
+pub passes : {f : Flags} {a b : Control} → SameControl f a b → (t u : Bool) (n k : ℕ) → t ≡ u → n ≡ k → SameControl f (passed t n a) (passed u k b)
+unfolding passed
+passes {f} {a} {b} s t u n k e g =
+    subst (λ (i : ℕ). SameControl f (passed t n a) (passed u i b)) g
+    (subst (λ (i : ℕ). SameControl f (passed t n a) (withCycles (fallen u n b) ((i + n) % 2 ^ 32))) (cycles-same s) (counts (falls s t u n e) ((a .cycles + n) % 2 ^ 32)))
+
+module _ {f : Flags} {a b : Control} (s : SameControl f a b) where
   -- what all entries have in common
   enters-rest : (low : ℕ) → withPsw (enter low a) 0 ≡ withPsw (enter low b) 0
   unfolding enter withPc withSfr

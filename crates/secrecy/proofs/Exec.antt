@@ -15,13 +15,14 @@ use Rattle.isa.specs.declared.ImmOp.{ImmOp}
 use Rattle.isa.specs.declared.ShortOp.{ShortOp}
 use Rattle.isa.specs.declared.LongOp.{LongOp}
 use Rattle.isa.specs.declared.Instr.{Instr}
-use Rattle.cpu.specs.Control.{withSfr, tf, cy, sfrOf}
-use Rattle.cpu.specs.Exec.{aluOf, carried, shiftOf, cmpOf, cmpImmOf, condOf, immValue, wants, shortJump, longJump, written, putsReg, moves, exec, dataAddress}
+use Rattle.cpu.specs.Control.{withSfr, tf, cy, wants, sfrOf}
+use Rattle.cpu.specs.Exec.{aluOf, carried, shiftOf, cmpOf, cmpImmOf, condOf, immValue, shortJump, longJump, written, putsReg, moves, makes, exec, dataAddress}
+use Rattle.cpu.specs.Cycles.{shiftCost, aluCost, branchCost, shortCost, longCost, costOf}
 use Rattle.cpu.specs.declared.Control.{Control}
 use Rattle.cpu.specs.declared.Effect.{Effect}
 use Rattle.instruction.specs.Act.{reachOf}
 use Rattle.instruction.specs.declared.Reach.{Reach}
-use Rattle.marks.specs.Marks.{aluMark, aluFlags, condMark, immMark, sfrMark, with, taint, shortBlocked, longBlocked, blocked}
+use Rattle.marks.specs.Marks.{aluMark, aluFlags, condMark, immMark, sfrMark, with, taint, aluBlocked, shortBlocked, longBlocked, blocked}
 use Rattle.marks.specs.declared.Flags.{Flags}
 use Rattle.marks.specs.declared.Taint.{Taint}
 use Rattle.secrecy.specs.Same.{SameControl}
@@ -34,6 +35,7 @@ pub record SameEffect (t : Taint) (e g : Effect) : Type 0 where
   pub reg : e .reg ≡ g .reg
   pub value : t .reg ≡ false → e .value ≡ g .value
   pub wrote : e .wrote ≡ g .wrote
+  pub cost : e .cost ≡ g .cost
 
 -- a mark that is made of two
 pub left-off : (a b : Bool) → (a || b) ≡ false → a ≡ false
@@ -52,10 +54,10 @@ sfr-same s (suc n) h = ap (λ (c : Control). sfrOf (suc n) c) (s .rest)
 
 -- a register and the next instruction, or none
 sets-same : {m : Bool} {f : Flags} {a b : Control} (d v x : ℕ) → SameControl f a b → (m ≡ false → v ≡ x) → SameEffect (with m f) (putsReg d v a) (putsReg d x b)
-sets-same d v x s e = record { control = onwards s 2; reg = refl; value = e; wrote = refl }
+sets-same d v x s e = record { control = onwards s 2; reg = refl; value = e; wrote = refl; cost = refl }
 
 moves-same : {f : Flags} {a b : Control} → SameControl f a b → SameEffect (with false f) (moves a) (moves b)
-moves-same s = record { control = s; reg = refl; value = λ h. refl; wrote = refl }
+moves-same s = record { control = s; reg = refl; value = λ h. refl; wrote = refl; cost = refl }
 
 -- the two operands x and y with marks mx and my, in the second run u and w
 module _ (mx my : Bool) (x y u w : ℕ) (p : mx ≡ false → x ≡ u) (q : my ≡ false → y ≡ w) where
@@ -154,39 +156,107 @@ wants-same : {f : Flags} {a b : Control} → SameControl f a b → (t : Bool) �
 wants-same s t h = ap (λ (v : Bool). Bool·beq v t) (s .psw .tf h)
 
 -- l is the mark of what is loaded, v and z that in the two runs
-pub exec-same : (i : Instr) (mx my l : Bool) (x y v u w z : ℕ) → (mx ≡ false → x ≡ u) → (my ≡ false → y ≡ w) → (l ≡ false → v ≡ z)
+makes-same : (i : Instr) (mx my l : Bool) (x y v u w z : ℕ) → (mx ≡ false → x ≡ u) → (my ≡ false → y ≡ w) → (l ≡ false → v ≡ z)
     → {f : Flags} {a b : Control} → SameControl f a b → blocked i my f ≡ false
-    → SameEffect (taint i mx my l (tf a) f) (exec i x y v a) (exec i u w z b)
-unfolding taint exec blocked
-exec-same (Instr.Alu op d r) mx my l x y v u w z p q o s h =
+    → SameEffect (taint i mx my l (tf a) f) (makes i x y v a) (makes i u w z b)
+unfolding taint makes blocked
+makes-same (Instr.Alu op d r) mx my l x y v u w z p q o s h =
     sets-same d _ _ (carries mx my x y u w p q s op) (alu-value mx my x y u w p q s op)
-exec-same (Instr.ShiftImm op d n) mx my l x y v u w z p q o s h = sets-same d _ _ s (λ e. ap (λ (k : ℕ). shiftOf op k n) (p e))
-exec-same (Instr.Cmp op d r) mx my l x y v u w z p q o s h =
+makes-same (Instr.ShiftImm op d n) mx my l x y v u w z p q o s h = sets-same d _ _ s (λ e. ap (λ (k : ℕ). shiftOf op k n) (p e))
+makes-same (Instr.Cmp op d r) mx my l x y v u w z p q o s h =
     moves-same (onwards (sets-tf s _ _ _ (both mx my x y u w p q (cmpOf op))) 2)
-exec-same (Instr.CmpImm op d n) mx my l x y v u w z p q o s h =
+makes-same (Instr.CmpImm op d n) mx my l x y v u w z p q o s h =
     moves-same (onwards (sets-tf s _ _ _ (λ e. ap (λ (k : ℕ). cmpImmOf op k n) (p e))) 2)
-exec-same (Instr.Cond op t d r) mx my l x y v u w z p q o {f} {a} {b} s h =
+makes-same (Instr.Cond op t d r) mx my l x y v u w z p q o {f} {a} {b} s h =
     sets-same d _ _ s (chosen-value mx my x y u w p q op (f .tf) (wants t a) (wants t b) (wants-same s t))
-exec-same (Instr.CondImm t d n) mx my l x y v u w z p q o {f} {a} {b} s h =
+makes-same (Instr.CondImm t d n) mx my l x y v u w z p q o {f} {a} {b} s h =
     sets-same d _ _ s (chosen-sum mx my x y u w p q n (f .tf) (wants t a) (wants t b) (wants-same s t))
-exec-same (Instr.Ldrpc d n) mx my l x y v u w z p q o s h = sets-same d _ _ s o
-exec-same (Instr.Imm op d n) mx my l x y v u w z p q o s h = sets-same d _ _ s (imm-value mx my x y u w p q op n)
-exec-same (Instr.Load k d n r) mx my l x y v u w z p q o s h = sets-same d _ _ s o
-exec-same (Instr.Store k d n r) mx my l x y v u w z p q o s h = moves-same (onwards s 2)
-exec-same (Instr.Mfsfr d n) mx my l x y v u w z p q o s h = sets-same d _ _ s (sfr-same s n)
-exec-same (Instr.Mtsfr n r) mx my l x y v u w z p q o s h =
+makes-same (Instr.Ldrpc d n) mx my l x y v u w z p q o s h = sets-same d _ _ s o
+makes-same (Instr.Imm op d n) mx my l x y v u w z p q o s h = sets-same d _ _ s (imm-value mx my x y u w p q op n)
+makes-same (Instr.Load k d n r) mx my l x y v u w z p q o s h = sets-same d _ _ s o
+makes-same (Instr.Store k d n r) mx my l x y v u w z p q o s h = moves-same (onwards s 2)
+makes-same (Instr.Mfsfr d n) mx my l x y v u w z p q o s h = sets-same d _ _ s (sfr-same s n)
+makes-same (Instr.Mtsfr n r) mx my l x y v u w z p q o s h =
     record {
       control = onwards (writes-same n y w s (q h)) 2;
       reg = refl;
       value = λ e. refl;
       wrote = ap (λ (t : Bool). eqb n 3 && t) (accepts s);
+      cost = refl;
     }
-exec-same (Instr.Jr r) mx my l x y v u w z p q o s h = moves-same (goes s y w (q h))
-exec-same (Instr.Jrl r) mx my l x y v u w z p q o s h = moves-same (goes (links s) y w (q h))
-exec-same (Instr.Jsfr n) mx my l x y v u w z p q o s h = moves-same (goes (leaves s n) _ _ (sfr-same s n h))
-exec-same (Instr.Swint n) mx my l x y v u w z p q o s h = moves-same (onwards s 2)
-exec-same (Instr.ShortJump op d) mx my l x y v u w z p q o s h = moves-same (short-jumps op d s h)
-exec-same (Instr.LongJump op d) mx my l x y v u w z p q o s h = moves-same (long-jumps op d s h)
+makes-same (Instr.Jr r) mx my l x y v u w z p q o s h = moves-same (goes s y w (q h))
+makes-same (Instr.Jrl r) mx my l x y v u w z p q o s h = moves-same (goes (links s) y w (q h))
+makes-same (Instr.Jsfr n) mx my l x y v u w z p q o s h = moves-same (goes (leaves s n) _ _ (sfr-same s n h))
+makes-same (Instr.Swint n) mx my l x y v u w z p q o s h = moves-same (onwards s 2)
+makes-same (Instr.ShortJump op d) mx my l x y v u w z p q o s h = moves-same (short-jumps op d s h)
+makes-same (Instr.LongJump op d) mx my l x y v u w z p q o s h = moves-same (long-jumps op d s h)
+
+-- what it costs is the same: an amount and a condition that are marked stop it
+branch-cost : {f : Flags} {a b : Control} → SameControl f a b → (t : Bool) → f .tf ≡ false → branchCost t a ≡ branchCost t b
+branch-cost s t h = ap (λ (k : Bool). cond k 2 3) (wants-same s t h)
+
+alu-cost : (op : AluOp) (my : Bool) (y w : ℕ) → (my ≡ false → y ≡ w) → aluBlocked op my ≡ false → aluCost op y ≡ aluCost op w
+unfolding aluBlocked aluCost
+alu-cost AluOp.Sub my y w q h = refl
+alu-cost AluOp.Add my y w q h = refl
+alu-cost AluOp.Subc my y w q h = refl
+alu-cost AluOp.Addc my y w q h = refl
+alu-cost AluOp.Mov my y w q h = refl
+alu-cost AluOp.And my y w q h = refl
+alu-cost AluOp.Or my y w q h = refl
+alu-cost AluOp.Xor my y w q h = refl
+alu-cost AluOp.Sxb my y w q h = refl
+alu-cost AluOp.Xhw my y w q h = refl
+alu-cost AluOp.Sxh my y w q h = refl
+alu-cost AluOp.Zxh my y w q h = refl
+alu-cost AluOp.Lsl my y w q h = ap (λ (k : ℕ). shiftCost (k % 64)) (q h)
+alu-cost AluOp.Lsr my y w q h = ap (λ (k : ℕ). shiftCost (k % 64)) (q h)
+alu-cost AluOp.Asr my y w q h = ap (λ (k : ℕ). shiftCost (k % 64)) (q h)
+alu-cost AluOp.Mult my y w q h = refl
+
+short-cost : (op : ShortOp) {f : Flags} {a b : Control} → SameControl f a b → shortBlocked op f ≡ false → shortCost op a ≡ shortCost op b
+unfolding shortBlocked
+short-cost ShortOp.Sjf s h = branch-cost s false h
+short-cost ShortOp.Sjt s h = branch-cost s true h
+short-cost ShortOp.Sj s h = refl
+
+long-cost : (op : LongOp) {f : Flags} {a b : Control} → SameControl f a b → longBlocked op f ≡ false → longCost op a ≡ longCost op b
+unfolding longBlocked
+long-cost LongOp.Jf s h = branch-cost s false h
+long-cost LongOp.Jt s h = branch-cost s true h
+long-cost LongOp.J s h = refl
+long-cost LongOp.Jl s h = refl
+
+cost-same : (i : Instr) (my : Bool) (y w : ℕ) → (my ≡ false → y ≡ w) → {f : Flags} {a b : Control} → SameControl f a b → blocked i my f ≡ false
+    → costOf i y a ≡ costOf i w b
+unfolding costOf blocked
+cost-same (Instr.Alu op d r) my y w q s h = alu-cost op my y w q h
+cost-same (Instr.ShiftImm op d n) my y w q s h = refl
+cost-same (Instr.Cmp op d r) my y w q s h = refl
+cost-same (Instr.CmpImm op d n) my y w q s h = refl
+cost-same (Instr.Cond op t d r) my y w q s h = refl
+cost-same (Instr.CondImm t d n) my y w q s h = refl
+cost-same (Instr.Ldrpc d n) my y w q s h = refl
+cost-same (Instr.Imm op d n) my y w q s h = refl
+cost-same (Instr.Load v d n r) my y w q s h = refl
+cost-same (Instr.Store v d n r) my y w q s h = refl
+cost-same (Instr.Mfsfr d n) my y w q s h = refl
+cost-same (Instr.Mtsfr n r) my y w q s h = refl
+cost-same (Instr.Jr r) my y w q s h = refl
+cost-same (Instr.Jrl r) my y w q s h = refl
+cost-same (Instr.Jsfr n) my y w q s h = refl
+cost-same (Instr.Swint n) my y w q s h = refl
+cost-same (Instr.ShortJump op d) my y w q s h = short-cost op s h
+cost-same (Instr.LongJump op d) my y w q s h = long-cost op s h
+
+-- so an instruction does the same at the same cost
+pub exec-same : (i : Instr) (mx my l : Bool) (x y v u w z : ℕ) → (mx ≡ false → x ≡ u) → (my ≡ false → y ≡ w) → (l ≡ false → v ≡ z)
+    → {f : Flags} {a b : Control} → SameControl f a b → blocked i my f ≡ false
+    → SameEffect (taint i mx my l (tf a) f) (exec i x y v a) (exec i u w z b)
+unfolding exec
+exec-same i mx my l x y v u w z p q o s h =
+    let m = makes-same i mx my l x y v u w z p q o s h in
+    record { control = m .control; reg = m .reg; value = m .value; wrote = m .wrote; cost = cost-same i my y w q s h }
 
 -- what becomes marked is the same: it depends on TF only if TF is unmarked
 masked : (m t v x y : Bool) → (m ≡ false → t ≡ v) → (m || cond t x y) ≡ (m || cond v x y)

@@ -18,14 +18,14 @@ use Rattle.instruction.specs.declared.Reply.{Reply}
 use Rattle.machine.specs.State.{outOfForm}
 use Rattle.machine.specs.Step.{Stepped, stepOf, after}
 use Rattle.machine.specs.Run.{Final, badLength, judge, goOn, stepsOf, judged, runOf}
-use Rattle.machine.specs.Trace.{traceOn, traceOf, shown, shownOf}
+use Rattle.machine.specs.Trace.{Shown, traceOn, traceOf, shown, shownOf}
 use Rattle.machine.specs.declared.State.{State}
 use Rattle.machine.specs.declared.Judged.{Judged}
 use Rattle.machine.specs.declared.Done.{Done}
-use Rattle.machine.specs.declared.Line.{Line}
 use Rattle.secrecy.specs.Same.{SameControl, SameList, SameMem, Same, SameFinal}
 use Rattle.secrecy.proofs.Psw.{bit-over}
 use Rattle.secrecy.proofs.Memory.{set-same}
+use Rattle.secrecy.proofs.Control.{cycles-same}
 use Rattle.secrecy.proofs.Step.{SameDone, SameStep, stops, goes, step-same}
 
 -- ---- one step, of states with equal marks
@@ -69,22 +69,23 @@ go-on : (rest : State → List ℕ → List ℕ → Final)
     → (i : ℕ) {a c : State} → Same a c → {m n k : List ℕ} → SameMem k m n → {u v : Stepped} → SameStep u v
     → SameFinal (goOn rest i a m k u) (goOn rest i c n k v)
 unfolding goOn
-go-on rest ih i s mem (stops r) = record { reply = refl; steps = refl; state = s; marks = refl; mem = mem }
+go-on rest ih i s mem (stops r) = record { reply = refl; steps = refl; cycles = cycles-same (s .control); state = s; marks = refl; mem = mem }
 go-on rest ih i s mem (goes x w h each) = ih _ _ _ _ _ (after-same s w) h each
 
 pub steps-same : (b i : ℕ) (t : List ℕ) (a c : State) (m n k : List ℕ) → Same a c → SameMem k m n → length m ≡ length k
     → SameFinal (stepsOf b i t a m k) (stepsOf b i t c n k)
 unfolding stepsOf
-steps-same zero i t a c m n k s mem each = record { reply = refl; steps = refl; state = s; marks = refl; mem = mem }
+steps-same zero i t a c m n k s mem each = record { reply = refl; steps = refl; cycles = cycles-same (s .control); state = s; marks = refl; mem = mem }
 steps-same (suc b) i t a c m n k s mem each =
     go-on (stepsOf b (i + 1) t) (steps-same b (i + 1) t) i s mem (stepped s mem each (getD t i 0))
 
-trace-on : (rest : State → List ℕ → List ℕ → List Line)
+trace-on : (rest : State → List ℕ → List ℕ → List Shown)
     → ((x y : State) (p q l : List ℕ) → Same x y → SameMem l p q → length p ≡ length l → rest x p l ≡ rest y q l)
     → {a c : State} → Same a c → {u v : Stepped} → SameStep u v → traceOn rest a u ≡ traceOn rest c v
 unfolding traceOn
 trace-on rest ih s (stops r) = refl
-trace-on rest ih s (goes x w h each) = ap (λ (l : List Line). x ∷ l) (ih _ _ _ _ _ (after-same s w) h each)
+trace-on rest ih s (goes x w h each) =
+    ap₂ (λ (n : ℕ) (l : List Shown). record { line = x; cycles = n } ∷ l) (cycles-same (w .control)) (ih _ _ _ _ _ (after-same s w) h each)
 
 pub trace-same : (b i : ℕ) (t : List ℕ) (a c : State) (m n k : List ℕ) → Same a c → SameMem k m n → length m ≡ length k
     → traceOf b i t a m k ≡ traceOf b i t c n k
@@ -138,7 +139,7 @@ module _ (b : ℕ) (t : List ℕ) (a c : State) (m n k : List ℕ) (s : Same a c
       subst (λ (j : Judged). SameFinal (judged (judge b t a m k) b t a m k) (judged j b t c n k)) (judge-same b t s mem) (go (judge b t a m k) refl)
     where
       go : (j : Judged) → judge b t a m k ≡ j → SameFinal (judged j b t a m k) (judged j b t c n k)
-      go (Judged.Refused r) e = record { reply = refl; steps = refl; state = s; marks = refl; mem = mem }
+      go (Judged.Refused r) e = record { reply = refl; steps = refl; cycles = cycles-same (s .control); state = s; marks = refl; mem = mem }
       go Judged.Good e = steps-same b 0 t a c m n k s mem (judged-each b t a m k e)
 
   pub shown-same : shownOf b t a m k ≡ shownOf b t c n k

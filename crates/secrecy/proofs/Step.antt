@@ -17,6 +17,7 @@ use Rattle.isa.specs.declared.Instr.{Instr}
 use Rattle.cpu.specs.Control.{pcOf, withSfr, tf}
 use Rattle.cpu.specs.Entries.{isBreak, entered}
 use Rattle.cpu.specs.Exec.{exec, sourcesOf}
+use Rattle.cpu.specs.Cycles.{entryCost}
 use Rattle.cpu.specs.declared.Control.{Control}
 use Rattle.cpu.specs.declared.Effect.{Effect}
 use Rattle.cpu.specs.declared.Entry.{Entry}
@@ -43,7 +44,7 @@ use Rattle.machine.specs.declared.Data.{Data}
 use Rattle.machine.specs.declared.Line.{Line}
 use Rattle.secrecy.specs.Same.{SamePsw, SameControl, SameList, SameMem}
 use Rattle.secrecy.proofs.Psw.{bit-under, bit-over}
-use Rattle.secrecy.proofs.Control.{pc-same, onwards, falls, entries, breaks, watches}
+use Rattle.secrecy.proofs.Control.{pc-same, onwards, passes, entries, breaks, watches}
 use Rattle.secrecy.proofs.Exec.{SameEffect, exec-same, taint-same, reach-same}
 use Rattle.secrecy.proofs.Memory.{loaded, stored, stored-each}
 
@@ -167,7 +168,9 @@ done-same : {f : Flags} {a b : Control} → SameControl f a b → (t : Taint) (r
 unfolding doneOf
 done-same s t r e =
     record {
-      control = falls (entered-same r (e .control)) _ _ (ap₂ (λ (x y : Bool). x && not y) (bit-under (s .psw) 4 (lit≤ tt)) (e .wrote));
+      control =
+          passes (entered-same r (e .control)) _ _ _ _ (ap₂ (λ (x y : Bool). x && not y) (bit-under (s .psw) 4 (lit≤ tt)) (e .wrote))
+          (ap₂ (λ (n : ℕ) (x : Entry). n + entryCost x) (e .cost) (entry-same r (e .control)));
       flags = refl;
       reg = e .reg;
       mark = refl;
@@ -249,7 +252,7 @@ module _ {km : List Bool} {ra rb : List ℕ} (regs : SameList false km ra rb) {f
       subst
       (λ (z : ℕ). SameStep (completed (entryDone e f u) m k (record { pc = pcOf a; entry = e; address = p })) (completed (entryDone e f v) n k (record { pc = record { 0 = z }; entry = e; address = p })))
       (pc-same s)
-      (goes _ (record { control = falls (entries r e) _ _ (bit-under (r .psw) 4 (lit≤ tt)); flags = refl; reg = refl; mark = refl; value = λ h. refl }) mem each)
+      (goes _ (record { control = passes (entries r e) _ _ _ _ (bit-under (r .psw) 4 (lit≤ tt)) refl; flags = refl; reg = refl; mark = refl; value = λ h. refl }) mem each)
 
   halted : (h : Halt) (p : Data) → SameStep (haltStep h p f a m k) (haltStep h p f b n k)
   halted Halt.FetchOutside p = enters-same Entry.FetchError Data.Nowhere s

@@ -44,10 +44,11 @@ pub record Same (a b : State) : Type 0 where
   pub regs : SameList false (a .marks) (a .regs) (b .regs)
   pub control : SameControl (a .flags) (a .control) (b .control)
 
--- the ends of two runs: the same answer and step count, equal marks, and equal unmarked contents
+-- the ends of two runs: the same answer, step count and cycle count, equal marks, and equal unmarked contents
 pub record SameFinal (x y : Final) : Type 0 where
   pub reply : x .ended .reply ≡ y .ended .reply
   pub steps : x .ended .steps ≡ y .ended .steps
+  pub cycles : x .ended .cycles ≡ y .ended .cycles
   pub state : Same (x .ended .state) (y .ended .state)
   pub marks : x .marks ≡ y .marks
   pub mem : SameMem (x .marks) (x .mem) (y .mem)

@@ -13,10 +13,11 @@ use Rattle.isa.specs.Codes.{kindOf}
 use Rattle.isa.specs.Decode.{operandsOf, decodeOf}
 use Rattle.isa.specs.declared.AluOp.{AluOp}
 use Rattle.isa.specs.declared.Instr.{Instr}
-use Rattle.cpu.specs.Control.{withPc, withSfr, cy}
+use Rattle.cpu.specs.Control.{withPc, withSfr, cy, withCycles}
 use Rattle.cpu.specs.declared.Control.{Control}
-use Rattle.cpu.specs.Entries.{entered, isBreak, fallen}
-use Rattle.cpu.specs.Exec.{onward, carried, written, exec, sourcesOf, dataAddress}
+use Rattle.cpu.specs.Entries.{entered, isBreak, fallen, passed}
+use Rattle.cpu.specs.Exec.{onward, carried, written, makes, exec, sourcesOf, dataAddress}
+use Rattle.cpu.specs.Cycles.{costOf, entryCost, aluCost}
 use Rattle.instruction.specs.Fetch.{halfAt, fetchOf}
 use Rattle.instruction.specs.Act.{reachOf}
 use Rattle.machine.specs.State.{freshState, outOfForm}
@@ -67,7 +68,7 @@ module _ (q : Rules) where
 
   module _ (goes : q .blocked (Instr.Mtsfr 5 1) true unmarked ≡ false) where
     usreg : (v : ℕ) → stepped mtsfr v .ended .state .control .usreg ≡ v
-    unfolding load any anyAbove kindOf operandsOf decodeOf withPc withSfr entered isBreak fallen onward written exec sourcesOf halfAt fetchOf reachOf outOfForm chosen doneOf after judge goOn actWith instrStepWith stepWith stepsWith runWith
+    unfolding load any anyAbove kindOf operandsOf decodeOf withPc withSfr entered isBreak fallen passed entryCost withCycles onward written exec makes costOf aluCost sourcesOf halfAt fetchOf reachOf outOfForm chosen doneOf after judge goOn actWith instrStepWith stepWith stepsWith runWith
     usreg v = rw goes
 
     pub mtsfr-leaks : TwoRuns (runWith q) → ⊥
@@ -85,7 +86,7 @@ module _ (q : Rules) where
       (keeps : q .taint (Instr.Alu AluOp.Sub 0 1) false true false false unmarked .flags .cy ≡ false) where
     borrows : (cy (stepped sub 0 .ended .state .control) ≡ false) × (cy (stepped sub 1 .ended .state .control) ≡ true)
         × (stepped sub 0 .ended .state .flags .cy ≡ false)
-    unfolding put load any anyAbove kindOf operandsOf decodeOf withPc withSfr entered isBreak fallen onward carried exec sourcesOf halfAt fetchOf reachOf outOfForm chosen doneOf after judge goOn actWith instrStepWith stepWith stepsWith runWith
+    unfolding put load any anyAbove kindOf operandsOf decodeOf withPc withSfr entered isBreak fallen passed entryCost withCycles onward carried exec makes costOf aluCost sourcesOf halfAt fetchOf reachOf outOfForm chosen doneOf after judge goOn actWith instrStepWith stepWith stepsWith runWith
     borrows = (rw goes, rw goes, rw goes keeps)
 
     pub sub-leaks : TwoRuns (runWith q) → ⊥

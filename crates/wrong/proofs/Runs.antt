@@ -8,9 +8,10 @@ use lib.ListN.{set, replicate}
 use Rattle.word.specs.Bytes.{load, any, anyAbove}
 use Rattle.isa.specs.Codes.{kindOf}
 use Rattle.isa.specs.Decode.{operandsOf, decodeOf}
-use Rattle.cpu.specs.Control.{freshControl, withPc}
-use Rattle.cpu.specs.Entries.{entered, isBreak, fallen}
-use Rattle.cpu.specs.Exec.{onward, immValue, exec, sourcesOf}
+use Rattle.cpu.specs.Control.{freshControl, withPc, withCycles}
+use Rattle.cpu.specs.Entries.{entered, isBreak, fallen, passed}
+use Rattle.cpu.specs.Exec.{onward, immValue, makes, exec, sourcesOf}
+use Rattle.cpu.specs.Cycles.{costOf, entryCost, aluCost}
 use Rattle.marks.specs.Marks.{immMark, taint, blocked}
 use Rattle.instruction.specs.Fetch.{halfAt, fetchOf}
 use Rattle.instruction.specs.Act.{reachOf, actOf}
@@ -33,12 +34,13 @@ program = 0x71 ∷ 0x10 ∷ 0x71 ∷ 0x10 ∷ []
 abbrev pub moved : ℕ → Final
 moved b = runOf b zeros freshState program zeros
 
-abbrev movedTo : ℕ → State
-movedTo pc = record {
+-- after n cycles
+abbrev movedTo : ℕ → ℕ → State
+movedTo pc n = record {
   regs = set (freshState .regs) 1 16;
   marks = freshState .marks;
   flags = freshState .flags;
-  control = withPc freshControl (record { 0 = pc });
+  control = withCycles (withPc freshControl (record { 0 = pc })) n;
 }
 
 pub no-memory : runOf 0 [] freshState [] [] ≡ final Reply.MemoryLength 0 freshState [] []
@@ -49,8 +51,8 @@ pub moved-0 : moved 0 ≡ final Reply.Budget 0 freshState program zeros
 unfolding anyAbove outOfForm judge stepsOf runOf
 moved-0 = refl
 
-pub moved-on : (moved 1 ≡ final Reply.Budget 1 (movedTo 2) program zeros) × (moved 2 ≡ final Reply.Budget 2 (movedTo 4) program zeros)
-unfolding load any anyAbove kindOf operandsOf decodeOf withPc entered isBreak fallen onward immValue exec sourcesOf immMark taint blocked halfAt fetchOf reachOf actOf outOfForm chosen doneOf instrStep stepOf after judge goOn stepsOf runOf
+pub moved-on : (moved 1 ≡ final Reply.Budget 1 (movedTo 2 1) program zeros) × (moved 2 ≡ final Reply.Budget 2 (movedTo 4 2) program zeros)
+unfolding load any anyAbove kindOf operandsOf decodeOf withPc entered isBreak fallen passed entryCost withCycles onward immValue exec makes costOf aluCost sourcesOf immMark taint blocked halfAt fetchOf reachOf actOf outOfForm chosen doneOf instrStep stepOf after judge goOn stepsOf runOf
 moved-on = (refl, refl)
 
 -- a run that stops at once: no instruction

@@ -12,6 +12,7 @@ use Rattle.instruction.specs.declared.Reply.{Reply}
 use Rattle.machine.specs.Run.{Final}
 use Rattle.machine.specs.declared.State.{State}
 use Rattle.secrecy.specs.Same.{SameList, Same, SameFinal}
+use Rattle.secrecy.proofs.Control.{cycles-same}
 use Rattle.wrong.specs.Models.{withSteps, unlessRefused, counted, allMarked, withMarks}
 
 by-reply : (p : Reply → Bool) {x y f g u v : Final} → SameFinal x y → SameFinal f g → SameFinal u v
@@ -23,7 +24,7 @@ by-reply p {x} {y} {f} {g} {u} {v} e s r = rw (e .reply) (go (p (y .ended .reply
     go false = r
 
 pub steps-same : (n : ℕ) {x y : Final} → SameFinal x y → SameFinal (withSteps n x) (withSteps n y)
-steps-same n s = record { reply = s .reply; steps = refl; state = s .state; marks = s .marks; mem = s .mem }
+steps-same n s = record { reply = s .reply; steps = refl; cycles = cycles-same (s .state .control); state = s .state; marks = s .marks; mem = s .mem }
 
 pub unless-same : {x y f g : Final} → SameFinal x y → SameFinal f g → SameFinal (unlessRefused x f) (unlessRefused y g)
 unless-same x f = by-reply (λ r. ltb (numberOf r) 10) x x f
@@ -57,6 +58,7 @@ pub end-marked : {x y : Final} → SameFinal x y → SameFinal (withMarks x) (wi
 end-marked s = record {
   reply = s .reply;
   steps = s .steps;
+  cycles = cycles-same (s .state .control);
   state = state-marked (s .state);
   marks = ap (map (λ b. 1)) (s .marks);
   mem = list-marked 1 0 (λ e. omega arith) (s .mem);

@@ -12,8 +12,8 @@ use Rattle.word.specs.declared.Width.{Width}
 use Rattle.isa.specs.Encode.{nibsOf, encodeOf}
 use Rattle.isa.specs.declared.AluOp.{AluOp}
 use Rattle.isa.specs.declared.Instr.{Instr}
-use Rattle.cpu.specs.Control.{withPc}
-use Rattle.marks.specs.Marks.{taint, blocked}
+use Rattle.cpu.specs.Control.{withPc, withCycles}
+use Rattle.marks.specs.Marks.{taint, aluBlocked, blocked}
 use Rattle.instruction.specs.declared.Reply.{Reply}
 use Rattle.machine.specs.State.{freshState}
 use Rattle.machine.specs.Run.{Final, runOf}
@@ -23,6 +23,7 @@ use Rattle.wrong.specs.Models.{refusesAtOnce, stopsAtOnce, constantReply
 use Rattle.wrong.specs.Statements.{IsRun, TwoRuns}
 use Rattle.wrong.specs.Rules.{Rules, trueRules, runWith, unmarked, begins, mtsfrGoes, subKeepsCy, storeKeepsMarks}
 use Rattle.wrong.proofs.Runs.{zeros, program, moved-0, moved-on, no-instruction, differs, one-reply}
+use Rattle.secrecy.proofs.Control.{cycles-same}
 use Rattle.wrong.proofs.Same.{unless-same, counted-same, steps-same, end-marked}
 use Rattle.wrong.proofs.Rules.{run-true}
 use Rattle.wrong.proofs.Leaks.{mtsfr-leaks, sub-leaks, store-leaks}
@@ -42,11 +43,11 @@ unfolding constantReply
 constant-reply-out r = one-reply (constantReply r) r (λ b t s m k. refl)
 
 pub changes-nothing-out : IsRun changesNothing → ⊥
-unfolding changesNothing withPc
+unfolding changesNothing withPc withCycles
 changes-nothing-out = differs changesNothing (λ f. f .ended .state .control .pc) 1 program (rw (moved-on .0) (λ e. omega arith))
 
 pub first-step-only-out : IsRun firstStepOnly → ⊥
-unfolding firstStepOnly withPc
+unfolding firstStepOnly withPc withCycles
 first-step-only-out = differs firstStepOnly (λ f. f .ended .state .control .pc) 2 program (rw (moved-on .1, moved-on .0) (λ e. omega arith))
 
 -- any count g that is not the run's on some input, and so the budget for the count
@@ -70,7 +71,7 @@ run-through b t a c m n k s mem = two-runs b t a c m n k s mem .0
 
 pub refuses-at-once-through : (r : Reply) → TwoRuns (refusesAtOnce r)
 unfolding TwoRuns refusesAtOnce
-refuses-at-once-through r b t a c m n k s mem = record { reply = refl; steps = refl; state = s; marks = refl; mem = mem }
+refuses-at-once-through r b t a c m n k s mem = record { reply = refl; steps = refl; cycles = cycles-same (s .control); state = s; marks = refl; mem = mem }
 
 pub stops-at-once-through : TwoRuns stopsAtOnce
 unfolding TwoRuns stopsAtOnce
@@ -80,13 +81,13 @@ pub constant-reply-through : (r : Reply) → TwoRuns (constantReply r)
 unfolding TwoRuns constantReply
 constant-reply-through r b t a c m n k s mem =
     let x = run-through b t a c m n k s mem in
-    record { reply = refl; steps = x .steps; state = x .state; marks = x .marks; mem = x .mem }
+    record { reply = refl; steps = x .steps; cycles = cycles-same (x .state .control); state = x .state; marks = x .marks; mem = x .mem }
 
 pub changes-nothing-through : TwoRuns changesNothing
 unfolding TwoRuns changesNothing
 changes-nothing-through b t a c m n k s mem =
     let x = run-through b t a c m n k s mem in
-    record { reply = x .reply; steps = x .steps; state = s; marks = refl; mem = mem }
+    record { reply = x .reply; steps = x .steps; cycles = cycles-same (s .control); state = s; marks = refl; mem = mem }
 
 pub first-step-only-through : TwoRuns firstStepOnly
 unfolding TwoRuns firstStepOnly
@@ -127,7 +128,7 @@ unfolding blocked encodeOf nibsOf begins
 mtsfr-goes-leaks = mtsfr-must-stop mtsfrGoes refl
 
 pub sub-keeps-cy-leaks : TwoRuns (runWith subKeepsCy) → ⊥
-unfolding blocked taint encodeOf nibsOf begins
+unfolding blocked aluBlocked taint encodeOf nibsOf begins
 sub-keeps-cy-leaks = sub-must-mark subKeepsCy refl refl
 
 pub store-keeps-marks-leaks : TwoRuns (runWith storeKeepsMarks) → ⊥

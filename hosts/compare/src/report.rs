@@ -220,7 +220,7 @@ fn state(record: &[u8]) -> String {
     for number in 1..=10 {
         text += &format!("sfr{number} {:x} ", state.sfr(number));
     }
-    text + &format!("pending {}", state.pending)
+    text + &format!("pending {} cycles {}", state.pending, state.cycles)
 }
 
 fn end(name: &str, end: &End) -> String {

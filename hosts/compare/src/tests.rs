@@ -111,6 +111,14 @@ fn small_mistakes_are_found() {
         }
         end
     }));
+    // A cycle too many after many steps.
+    assert!(is_found(|input| {
+        let mut end = by_library(input);
+        if end.steps > 100 {
+            end.record[135] ^= 1;
+        }
+        end
+    }));
     // The mark of CY after a stop.
     assert!(is_found(|input| {
         let mut end = by_library(input);

@@ -1,6 +1,7 @@
 //! The call of the static library, and all that is unsafe about it.
 
 use crate::reply::{Error, Outcome, Reply};
+use crate::state::cycles;
 
 extern "C" {
     /// As `include/manik.h` documents it.
@@ -30,10 +31,10 @@ pub fn run_record(
     budget: u64,
 ) -> Result<Outcome, Error> {
     let (number, steps) = call(record, memory, marks, tape, budget);
-    match Reply::from_number(number) {
-        Some(reply) => Ok(Outcome { reply, steps }),
-        None if (number, steps) == (0, 0) => Err(Error::RecordOutOfShape),
-        None => Err(Error::UnknownReply { number, steps }),
+    match (Reply::from_number(number), cycles(record)) {
+        (Some(reply), Some(cycles)) => Ok(Outcome { reply, steps, cycles }),
+        (None, _) if (number, steps) == (0, 0) => Err(Error::RecordOutOfShape),
+        _ => Err(Error::UnknownReply { number, steps }),
     }
 }
 

@@ -11,6 +11,8 @@
 //! let outcome = manik::run(&mut state, &mut memory, &mut marks, &[0; 3], 3)?;
 //! assert_eq!((outcome.reply, outcome.steps), (manik::Reply::BudgetUsed, 3));
 //! assert_eq!((state.pc, state.registers[1].value), (4, 32));
+//! // Two cycles of the first two, and two of the jump.
+//! assert_eq!((outcome.cycles, state.cycles), (4, 4));
 //! # Ok::<(), manik::Error>(())
 //! ```
 

@@ -84,12 +84,14 @@ pub struct Outcome {
     pub reply: Reply,
     /// The number of completed steps.
     pub steps: u64,
+    /// The cycle count of the state, which a refusal leaves as it was given.
+    pub cycles: u32,
 }
 
-/// The reply by number and in words, and the steps.
+/// The reply by number and in words, and the steps. The cycles stand with the state.
 impl fmt::Display for Outcome {
     fn fmt(&self, formatter: &mut fmt::Formatter) -> fmt::Result {
-        let Outcome { reply, steps } = self;
+        let Outcome { reply, steps, .. } = self;
         write!(formatter, "reply {}, steps {steps}: {reply}", reply.number())
     }
 }

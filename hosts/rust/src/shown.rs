@@ -67,6 +67,7 @@ fn contents(state: &State) -> Vec<(String, Content)> {
     let special = state.special().map(Content::Word);
     contents.extend(State::SPECIAL.into_iter().zip(special).map(named));
     contents.push(named(("pending", Content::Flag(state.pending))));
+    contents.push(named(("cycles", Content::Word(state.cycles))));
     contents
 }
 

@@ -3,7 +3,7 @@
 /// The length of a record.
 pub const RECORD_LENGTH: usize = 160;
 
-/// Where the parts of a record begin. Byte 91 and bytes 132 to 159 are zero.
+/// Where the parts of a record begin. Byte 91 and bytes 136 to 159 are zero.
 mod place {
     pub const REGISTERS: usize = 0;
     pub const REGISTER_MARKS: usize = 64;
@@ -14,7 +14,8 @@ mod place {
     pub const PENDING: usize = 90;
     pub const ZERO: usize = 91;
     pub const SFR_1: usize = 92;
-    pub const ZEROS: usize = 132;
+    pub const CYCLES: usize = 132;
+    pub const ZEROS: usize = 136;
 }
 
 /// The bits of PSW that carry marks.
@@ -52,6 +53,8 @@ pub struct State {
     pub bp1: u32,
     pub wp0: u32,
     pub wp1: u32,
+    /// The cycle count, modulo 2^32.
+    pub cycles: u32,
 }
 
 impl State {
@@ -74,6 +77,7 @@ impl State {
             bp1: 0,
             wp0: 0,
             wp1: 0,
+            cycles: 0,
         }
     }
 
@@ -92,6 +96,7 @@ impl State {
         for (n, value) in self.special().into_iter().enumerate() {
             put(&mut record, place::SFR_1 + 4 * n, value);
         }
+        put(&mut record, place::CYCLES, self.cycles);
         record
     }
 
@@ -125,6 +130,7 @@ impl State {
             bp1,
             wp0,
             wp1,
+            cycles: word(record, place::CYCLES),
         })
     }
 
@@ -146,6 +152,11 @@ impl Default for State {
     fn default() -> State {
         State::fresh()
     }
+}
+
+/// The cycle count in a record of the right length; none if it has another.
+pub(crate) fn cycles(record: &[u8]) -> Option<u32> {
+    record.try_into().ok().map(|record| word(record, place::CYCLES))
 }
 
 fn word(record: &[u8; RECORD_LENGTH], place: usize) -> u32 {

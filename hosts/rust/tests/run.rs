@@ -25,8 +25,9 @@ impl Rig {
 
     fn run(&mut self) -> (Reply, u64) {
         let Rig { state, memory, marks, tape, budget } = self;
-        let Outcome { reply, steps } =
+        let Outcome { reply, steps, cycles } =
             run(state, memory, marks, tape, *budget).expect("the state has a record");
+        assert_eq!(cycles, state.cycles, "the result repeats the count");
         (reply, steps)
     }
 }
@@ -54,6 +55,7 @@ fn the_example_of_document_01() {
     assert_eq!(rig.run(), (Reply::BudgetUsed, 3));
     after.state.pc = 4;
     after.state.registers[1] = Register { value: 0x20, marked: false };
+    after.state.cycles = 4;
     assert_eq!(rig, after);
 }
 
@@ -86,6 +88,7 @@ fn refusal_4_state_form() {
         refuses(|rig| rig.state.hwdbg = hwdbg, Reply::StateForm);
     }
     refuses(|rig| (rig.state.pending, rig.state.timer) = (true, 1), Reply::StateForm);
+    refuses(|rig| (rig.state.pc, rig.state.cycles) = (1, 99), Reply::StateForm);
 }
 
 #[test]
@@ -138,7 +141,7 @@ fn bus_errors() {
         change(&mut rig);
         (rig.tape, rig.budget) = (vec![0], 1);
         let mut after = rig.clone();
-        (after.state.pc, after.state.psw, after.state.ipc) = (16, psw, ipc);
+        (after.state.pc, after.state.psw, after.state.ipc, after.state.cycles) = (16, psw, ipc, 4);
         assert_eq!(rig.run(), (Reply::BudgetUsed, 1));
         assert_eq!(rig, after);
     };
@@ -146,6 +149,22 @@ fn bus_errors() {
     entered(|rig| rig.state.registers[2].value = 16, 1 << 3 | 1 << 14, 2);
     // The handler is outside too.
     stops(&EXAMPLE, |rig| rig.state.pc = 16, Reply::BudgetUsed, 3);
+}
+
+/// Document 02: a shift costs by its amount, TIMER falls by that, and the count is modulo 2^32.
+#[test]
+fn cycles() {
+    for (amount, cost) in [(7, 2), (8, 3), (16, 4), (24, 5), (64, 2)] {
+        // lsl r1 by r2.
+        let mut rig = Rig::with(&[0x2c, 0x12]);
+        rig.state.registers[2].value = amount;
+        (rig.state.psw, rig.state.timer, rig.state.cycles) = (1 << 4, 10, u32::MAX);
+        (rig.tape, rig.budget) = (vec![0], 1);
+        assert_eq!(rig.run(), (Reply::BudgetUsed, 1));
+        assert_eq!((rig.state.cycles, rig.state.timer), (cost - 1, 10 - cost));
+    }
+    // The amount is marked.
+    stops(&[0x2c, 0x12], |rig| rig.state.registers[2].marked = true, Reply::OperandMarked, 0);
 }
 
 #[test]
@@ -171,6 +190,7 @@ fn busy_state() -> State {
     (state.ra, state.ipc, state.timer, state.ibase) = (0x5a5a_0001, 0x5a5a_0002, 0, 0x5a5a_0004);
     (state.usreg, state.hwdbg) = (0x5a5a_0005, 0x1c3);
     (state.bp0, state.bp1, state.wp0, state.wp1) = (7, 0x5a5a_0008, 0x5a5a_0009, 0x5a5a_000a);
+    state.cycles = 0x5a5a_000b;
     state
 }
 
@@ -187,7 +207,7 @@ fn a_record_read_back_is_the_state() {
 fn the_library_gives_a_record_back() {
     let (mut record, mut memory, mut marks) = (busy_state().to_record(), [0; 4], [0; 4]);
     let outcome = run_record(&mut record, &mut memory, &mut marks, &[], 0);
-    assert_eq!(outcome, Ok(Outcome { reply: Reply::BudgetUsed, steps: 0 }));
+    assert_eq!(outcome, Ok(Outcome { reply: Reply::BudgetUsed, steps: 0, cycles: 0x5a5a_000b }));
     assert_eq!(record, busy_state().to_record());
 }
 
@@ -196,7 +216,7 @@ fn records_out_of_shape_change_nothing() {
     let good = busy_state().to_record();
     let mut damaged: Vec<Vec<u8>> =
         vec![Vec::new(), good[..159].to_vec(), [&good[..], &[0]].concat()];
-    let places = (64..80).chain(88..92).chain(132..RECORD_LENGTH);
+    let places = (64..80).chain(88..92).chain(136..RECORD_LENGTH);
     damaged.extend(places.map(|place| {
         let mut record = good.to_vec();
         record[place] = 2;

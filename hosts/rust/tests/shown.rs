@@ -48,14 +48,14 @@ fn every_content_has_a_line() {
     state.registers.fill(Register { value: 1, marked: false });
     (state.psw, state.pending, state.ra, state.ipc) = (1 | TF | CY, true, 2, 3);
     (state.timer, state.ibase, state.usreg, state.hwdbg) = (4, 5, 6, 7);
-    (state.bp0, state.bp1, state.wp0, state.wp1) = (8, 9, 10, 11);
+    (state.bp0, state.bp1, state.wp0, state.wp1, state.cycles) = (8, 9, 10, 11, 0xfedc_ba98);
     let text = state.to_string();
     let registers: String = (0..16).map(|n| format!("r{n}\t00000001\n")).collect();
     assert!(text.starts_with(&format!("pc\t00000000\n{registers}tf\t1\ncy\t1\npsw\t00000001\n")));
     let names = ["ra", "ipc", "timer", "ibase", "usreg", "hwdbg", "bp0", "bp1", "wp0", "wp1"];
     let special: String =
         (2..).zip(names).map(|(value, name)| format!("{name}\t{value:08x}\n")).collect();
-    assert!(text.ends_with(&format!("{special}pending\t1")), "{text}");
+    assert!(text.ends_with(&format!("{special}pending\t1\ncycles\tfedcba98")), "{text}");
 }
 
 #[test]
@@ -77,7 +77,7 @@ fn marked_contents_never_show() {
 #[test]
 fn unmarked_contents_show_in_debug() {
     let text = format!("{:?}", state());
-    let changes: [fn(&mut State); 8] = [
+    let changes: [fn(&mut State); 9] = [
         |state| state.pc += 2,
         |state| state.registers[0].value = 1,
         |state| state.registers[1].marked = false,
@@ -86,6 +86,7 @@ fn unmarked_contents_show_in_debug() {
         |state| state.psw ^= 1,
         |state| state.wp1 = 1,
         |state| state.pending = true,
+        |state| state.cycles = 1,
     ];
     for (number, change) in changes.into_iter().enumerate() {
         let mut other = state();
@@ -101,7 +102,8 @@ fn the_debug_text() {
     assert!(text.starts_with(start), "{text}");
     let end = "r15: 00000020, tf: ********, cy: 1, psw: 00400020, ra: 00000000, ipc: 00000000, \
                timer: 00000007, ibase: 00000100, usreg: 00000000, hwdbg: 00000003, bp0: 00000000, \
-               bp1: 00000000, wp0: 00000000, wp1: 00000000, pending: 0 }";
+               bp1: 00000000, wp0: 00000000, wp1: 00000000, pending: 0, \
+               cycles: 00000000 }";
     assert!(text.ends_with(end), "{text}");
     let register = Register { value: 0x20, marked: false };
     assert_eq!(format!("{register:?}"), "Register { value: 00000020, marked: false }");
@@ -123,6 +125,6 @@ fn replies_have_the_words_of_the_header() {
 
 #[test]
 fn an_outcome_in_words() {
-    let outcome = Outcome { reply: Reply::OperandMarked, steps: 138 };
+    let outcome = Outcome { reply: Reply::OperandMarked, steps: 138, cycles: 7 };
     assert_eq!(outcome.to_string(), "reply 14, steps 138: a marked operand where none may be");
 }

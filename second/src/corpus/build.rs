@@ -47,6 +47,7 @@ pub fn busy_state() -> State {
     state.hwdbg = 0x1c3;
     (state.bp0, state.bp1) = (0x5a5a_0700, 0x5a5a_0802);
     (state.wp0, state.wp1) = (0x5a5a_0904, 0x5a5a_0a08);
+    state.cycles = 0x5a5a_0b0c;
     state
 }
 
@@ -139,7 +140,7 @@ impl Case {
 
     /// The documents promise this reply after so many steps, the last of which is no bus error.
     pub fn gives(mut self, reply: u32, steps: u64) -> Case {
-        self.promise = Some(Promise { reply, steps, bus_error: None });
+        self.promise = Some(Promise { reply, steps, bus_error: None, cycles: None });
         self
     }
 
@@ -147,6 +148,13 @@ impl Case {
     pub fn bus_error(mut self, access: Access) -> Case {
         let promise = self.promise.as_mut().expect("steps are promised");
         promise.bus_error = Some(access);
+        self
+    }
+
+    /// The promised steps cost so many cycles.
+    pub fn costs(mut self, cycles: u32) -> Case {
+        let promise = self.promise.as_mut().expect("steps are promised");
+        promise.cycles = Some(cycles);
         self
     }
 

@@ -3,6 +3,7 @@
 
 mod accesses;
 mod bus_errors;
+mod cycles;
 mod entries;
 mod jumps;
 mod marks;
@@ -25,6 +26,7 @@ pub fn edges() -> Vec<Case> {
         marks::cases(),
         replies::cases(),
         bus_errors::cases(),
+        cycles::cases(),
     ]
     .concat()
 }

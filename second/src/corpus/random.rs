@@ -200,7 +200,7 @@ impl Generator {
         (state.tf_marked, state.cy_marked) = (self.once_in(often), self.once_in(often));
         let odd = self.below(2);
         (state.ra, state.ipc) = (self.value(length) | odd, self.value(length) | odd);
-        state.timer = self.pick(&[0, 0, 1, 1, 2, 5, 20, u32::MAX]);
+        state.timer = self.pick(&[0, 0, 1, 1, 2, 3, 4, 5, 6, 20, u32::MAX]);
         state.pending = state.timer == 0 && self.once_in(2);
         state.ibase = match self.below(12) {
             0 => self.word(),
@@ -209,6 +209,8 @@ impl Generator {
             _ => self.below(length),
         };
         state.usreg = self.word();
+        let (any, nearly_over) = (self.word(), u32::MAX - self.below(60));
+        state.cycles = self.pick(&[0, any, nearly_over]);
         self.debug(&mut state, length);
         state
     }

@@ -160,11 +160,11 @@ fn the_other_entries_go_first() {
     }
 }
 
-/// "such a step counts as completed", so TIMER falls in it as in any.
+/// "such a step counts as completed", so TIMER falls in it as in any, by its cost.
 #[test]
 fn timer_falls_in_a_bus_error() {
     for (rig, ..) in every_kind() {
-        for (timer, after) in [(0, (0, false)), (1, (0, true)), (9, (8, false))] {
+        for (timer, after) in [(0, (0, false)), (1, (0, true)), (4, (0, true)), (9, (5, false))] {
             let mut rig = rig.clone();
             (rig.state.psw, rig.state.timer) = (TE, timer);
             assert_eq!(rig.run_steps(1), (10, 1));

@@ -4,6 +4,7 @@
 mod bus_errors;
 #[path = "../generator/cases.rs"]
 mod cases;
+mod cycles;
 mod edges;
 #[path = "../generator/mod.rs"]
 mod generator;

@@ -28,25 +28,51 @@ fn after_step(mut rig: Rig, lines: u8) -> (u32, bool) {
     (rig.state.timer, rig.state.pending)
 }
 
+/// A kind of step: its name, what makes a machine come to it with which lines, and its cost.
+type Kind = (&'static str, fn(&mut Rig), u8, u32);
+
+/// Steps of every cost.
+const KINDS: [Kind; 10] = [
+    ("an instruction", |_| (), 0, 1),
+    ("swint", |rig| rig.place(0, &[0x1003]), 0, 2),
+    ("a jump", |rig| rig.place(0, &[0xf400]), 0, 2),
+    ("a jump not taken", |rig| rig.place(0, &[0xec04]), 0, 3),
+    ("a shift by 9", |rig| rig.place(0, &[0x0c39]), 0, 3),
+    ("an external entry", |rig| rig.state.psw |= IE | 1 << 20, 1, 4),
+    ("a breakpoint", |rig| rig.state.hwdbg = 0b111, 0, 4),
+    ("a bus error", |rig| rig.state.pc = 0x1_0000, 0, 4),
+    (
+        "a shift by 24",
+        |rig| {
+            rig.place(0, &[0x2c35]);
+            rig.set(5, 24);
+        },
+        0,
+        5,
+    ),
+    (
+        "a load with its watchpoint",
+        |rig| {
+            rig.place(0, &[0x8035]);
+            rig.state.hwdbg = 0b010011;
+        },
+        0,
+        6,
+    ),
+];
+
+/// "TIMER falls by the step's cost, to no less than 0" (document 02, ticket 6).
 #[test]
-fn timer_falls_by_1_in_each_completed_step() {
-    let fall = |change: fn(&mut Rig), lines| {
-        let mut rig = running(&[MOVI], 7);
-        change(&mut rig);
-        after_step(rig, lines)
-    };
-    assert_eq!(fall(|_| (), 0), (6, false), "an instruction");
-    assert_eq!(fall(|rig| rig.place(0, &[0x1003]), 0), (6, false), "swint");
-    let external = |rig: &mut Rig| rig.state.psw |= IE | 1 << 20;
-    assert_eq!(fall(external, 1), (6, false), "an external entry");
-    let breakpoint = |rig: &mut Rig| rig.state.hwdbg = 0b111;
-    assert_eq!(fall(breakpoint, 0), (6, false), "a breakpoint");
-    let watchpoint = |rig: &mut Rig| {
-        rig.place(0, &[0x8035]);
-        rig.state.hwdbg = 0b010011;
-    };
-    assert_eq!(fall(watchpoint, 0), (6, false), "a load with its watchpoint");
-    assert_eq!(fall(|rig| rig.place(0, &[0xf400]), 0), (6, false), "a jump");
+fn timer_falls_by_the_cost_of_each_completed_step() {
+    for (name, change, lines, cost) in KINDS {
+        for timer in (0..10).chain([1_000, u32::MAX]) {
+            let mut rig = running(&[MOVI], timer);
+            change(&mut rig);
+            let reaches_0 = timer > 0 && timer <= cost;
+            let expected = (timer.saturating_sub(cost), reaches_0);
+            assert_eq!(after_step(rig, lines), expected, "{name}, TIMER {timer}");
+        }
+    }
 }
 
 #[test]
@@ -179,11 +205,11 @@ fn mfsfr_and_jsfr_read_timer_before_the_fall() {
             after.state.timer = timer.saturating_sub(1);
             after.state.pending = timer == 1;
         });
-        let rig = running(&[0x1e03], timer); // jsfr timer
+        let rig = running(&[0x1e03], timer); // jsfr timer, a taken jump
         rig.assert_step(|after| {
             after.state.pc = timer & !1;
-            after.state.timer = timer.saturating_sub(1);
-            after.state.pending = timer == 1;
+            after.state.timer = timer.saturating_sub(2);
+            after.state.pending = timer == 1 || timer == 2;
         });
     }
 }

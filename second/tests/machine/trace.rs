@@ -238,7 +238,8 @@ fn eventful() -> (Rig, [u8; 12]) {
     rig.place(16, &[0x100b, LDR, MOVI, MOVI]); // swint 11 first
     rig.set(5, 0x43);
     (rig.state.hwdbg, rig.state.wp1, rig.state.bp0) = (0b10_0111, 0x40, 0x16);
-    (rig.state.psw, rig.state.timer) = (IE | TE | 1 << 22, 7);
+    // The seven steps cost 2, 2, 2, 6, 2, 4 and 2.
+    (rig.state.psw, rig.state.timer) = (IE | TE | 1 << 22, 20);
     (rig, [0, 0, 0, 0, 0, 1 << 2, 0, 0, 0, 0, 0, 0])
 }
 

@@ -2,6 +2,7 @@
 //! held to this program.
 
 mod assembler;
+mod cycles;
 #[path = "../generator/mod.rs"]
 mod generator;
 mod instructions;

@@ -237,10 +237,10 @@ fn entering() -> [(&'static str, Entry, Rig, u8); 7] {
 
 #[test]
 fn entries_go_where_the_page_says() {
-    let columns = ["Entry", "Low 8 bits of pc", "IPC becomes", "Besides"];
+    let columns = ["Entry", "Low 8 bits of pc", "IPC becomes", "Cycles of the step", "Besides"];
     let rows = rows(&page("MANIK.md"), columns);
     assert_eq!(rows.len(), 7);
-    for ([name, low, ipc, _], entering) in rows.iter().zip(entering()) {
+    for ([name, low, ipc, cycles, _], entering) in rows.iter().zip(entering()) {
         let (expected, entry, mut rig, lines) = entering;
         assert_eq!(name, expected);
         let own = rig.state.pc;
@@ -249,5 +249,6 @@ fn entries_go_where_the_page_says() {
         assert_eq!(rig.state.pc - 0x5a5a_5a00, low.parse().expect("a number"), "{name}");
         let after = if ipc.starts_with("the address after") { own + 2 } else { own };
         assert_eq!(rig.state.ipc, after, "{name}");
+        assert_eq!(rig.state.cycles.to_string(), *cycles, "{name}");
     }
 }

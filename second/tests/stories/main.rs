@@ -4,4 +4,5 @@ mod build31;
 mod bus_errors;
 mod files;
 mod nested;
+mod shifts;
 mod sources;

@@ -8,6 +8,9 @@ use crate::files::{example, file, image, listing, memory, values};
 
 const INPUTS: [&str; 3] = ["nested.txt", "nested_lost.txt", "nested_saved.txt"];
 
+/// The budget of all three.
+const BUDGET: usize = 216;
+
 fn page() -> String {
     file("docs/EXAMPLES.md")
 }
@@ -33,7 +36,7 @@ fn steps(name: &str) -> Vec<Seen> {
         let step = step(&mut state, &mut memory, &mut marks, 0).expect("no stop");
         Seen { entry: step.entry, pc: step.pc, psw: state.psw }
     };
-    (0..200).map(|_| seen()).collect()
+    (0..BUDGET).map(|_| seen()).collect()
 }
 
 /// The handler's `jsfr`.
@@ -86,11 +89,12 @@ fn the_bits_move_as_the_page_says() {
 
 #[test]
 fn a_tick_is_due_inside_the_handler() {
-    let names = ["r1", "r2", "r6", "r7"];
+    let names = ["end", "r1", "r2", "r6", "r7"];
     let [nested, lost, saved] = INPUTS.map(|name| values(&example(name), names));
-    assert_eq!(nested, ["00000006", "00000006", "00000000", "00000001"]);
-    assert_eq!(lost, ["00000008", "0000000e", "00000007", "00000007"]);
-    assert_eq!(saved, ["00000004", "00000008", "00000000", "00000001"]);
+    let end = format!("10\t{BUDGET}");
+    assert_eq!(nested, [&end, "00000008", "00000008", "00000000", "00000001"]);
+    assert_eq!(lost, [&end, "00000008", "00000010", "00000008", "0000000f"]);
+    assert_eq!(saved, [&end, "00000005", "0000000a", "00000000", "00000001"]);
 }
 
 #[test]

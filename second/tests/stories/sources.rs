@@ -7,12 +7,14 @@ use crate::files::{bytes, example, files, image, memory};
 
 /// The sources, each with the place behind its last line. That is the end of the key state in the
 /// first three.
-const SOURCES: [(&str, usize); 5] = [
+const SOURCES: [(&str, usize); 7] = [
     ("build31", 0xe0),
     ("build32", 0xe0),
     ("leak", 0xe0),
     ("buserror", 0x4a),
     ("buserror_lost", 0x4a),
+    ("shifts", 0x38),
+    ("shifts_secret", 0x38),
 ];
 
 fn source(name: &str) -> String {

@@ -42,9 +42,12 @@ word-at-requires-11 c κs = search needs
 word-at-requires-12 : tie.Need-word-at-requires-12
 word-at-requires-12 c κs = search needs
 
+word-at-requires-13 : tie.Need-word-at-requires-13
+word-at-requires-13 c κs = search needs
+
 returns : tie.Need-returns
 unfolding controlAt
-returns c = rw (c .word-at12 .ensures, c .before .word-at11 .ensures, c .before .before .word-at10 .ensures, c .before .before .before .word-at9 .ensures, c .before .before .before .before .word-at8 .ensures, c .before .before .before .before .before .word-at7 .ensures, c .before .before .before .before .before .before .word-at6 .ensures, c .before .before .before .before .before .before .before .word-at5 .ensures, c .before .before .before .before .before .before .before .before .word-at4 .ensures, c .before .before .before .before .before .before .before .before .before .word-at3 .ensures, c .before .before .before .before .before .before .before .before .before .before .flag-at .ensures, c .before .before .before .before .before .before .before .before .before .before .before .word-at2 .ensures, c .before .before .before .before .before .before .before .before .before .before .before .before .word-at .ensures)
+returns c = rw (c .word-at13 .ensures, c .before .word-at12 .ensures, c .before .before .word-at11 .ensures, c .before .before .before .word-at10 .ensures, c .before .before .before .before .word-at9 .ensures, c .before .before .before .before .before .word-at8 .ensures, c .before .before .before .before .before .before .word-at7 .ensures, c .before .before .before .before .before .before .before .word-at6 .ensures, c .before .before .before .before .before .before .before .before .word-at5 .ensures, c .before .before .before .before .before .before .before .before .before .word-at4 .ensures, c .before .before .before .before .before .before .before .before .before .before .word-at3 .ensures, c .before .before .before .before .before .before .before .before .before .before .before .flag-at .ensures, c .before .before .before .before .before .before .before .before .before .before .before .before .word-at2 .ensures, c .before .before .before .before .before .before .before .before .before .before .before .before .before .word-at .ensures)
 
 pub control-at-spec : {M : Type 1} → statement M
 control-at-spec =
@@ -63,4 +66,5 @@ control-at-spec =
     word-at-requires-10
     word-at-requires-11
     word-at-requires-12
+    word-at-requires-13
     returns)

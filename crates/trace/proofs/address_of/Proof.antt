@@ -1,5 +1,4 @@
 use Rattle.instruction.specs.Act.{reachOf}
-use borrow.Author.Tests.{lt-ltb, le-ltb, le-leb, lt-leb, eq-eqb, ne-eqb}
 use borrow.Author.Needs.{needs}
 use Rattle.trace.proofs.address_of.Statement.{statement}
 use Rattle.trace.proofs.address_of.Tie as tie

@@ -14,7 +14,7 @@ impl Cases {
         match random.below(8) {
             0 | 1 => access(random, draft),
             2 => {
-                draft.state.timer = 1;
+                draft.state.timer = 1 + random.below(6);
                 draft.state.pending = false;
                 draft.state.psw |= psw::TE;
             }

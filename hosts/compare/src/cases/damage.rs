@@ -50,7 +50,7 @@ pub fn record(random: &mut Random, record: &mut Vec<u8>) {
     let place = match random.below(6) {
         0 => 64 + random.below(16),
         1 => 88 + random.below(4),
-        2 | 3 => 132 + random.below(28),
+        2 | 3 => 136 + random.below(24),
         4 => return record.truncate(random.below(160) as usize),
         _ => return record.extend(std::iter::repeat_n(0, 1 + random.below(8) as usize)),
     };

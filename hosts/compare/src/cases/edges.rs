@@ -36,7 +36,7 @@ impl Cases {
             4 => (state.tf_marked, state.cy_marked) = (random.once_in(2), random.once_in(2)),
             5 => state.hwdbg ^= 1 << (2 + random.below(7)),
             6 => state.pc = state.pc.wrapping_add(random.pick(&[2, 4, 6, 0xffff_fffe])),
-            7 => (state.timer, state.pending) = (random.pick(&[0, 1, 2]), false),
+            7 => (state.timer, state.pending) = (random.pick(&[0, 1, 2, 3, 4, 6]), false),
             8 => {
                 let bit = 1 << random.below(8);
                 draft.memory.get_mut(place).into_iter().for_each(|byte| *byte ^= bit);

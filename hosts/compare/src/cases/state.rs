@@ -29,6 +29,8 @@ pub fn any(random: &mut Random, length: u32) -> State {
         _ => random.below(length),
     };
     state.usreg = random.word();
+    let (any, nearly_over) = (random.word(), u32::MAX - random.below(60));
+    state.cycles = random.pick(&[0, any, nearly_over]);
     debug(random, &mut state, length);
     state
 }
@@ -66,7 +68,7 @@ pub fn firmware(random: &mut Random, length: u32) -> State {
 
 /// Mostly about to fall to 0, or pending.
 fn timer(random: &mut Random, state: &mut State) {
-    state.timer = random.pick(&[0, 0, 1, 1, 2, 5, 20, u32::MAX]);
+    state.timer = random.pick(&[0, 0, 1, 1, 2, 3, 4, 5, 6, 20, u32::MAX]);
     state.pending = state.timer == 0 && random.once_in(2);
 }
 

@@ -18,12 +18,14 @@ const SEED: u64 = 0x4d41_4e49_4b04;
 const SHORT: usize = 2_000;
 
 /// The sources of `examples/`: build 31, build 32 and the leak, then those of later tickets.
-const EXAMPLES: [&str; 5] = [
+const EXAMPLES: [&str; 7] = [
     include_str!("../../../../examples/build31.s"),
     include_str!("../../../../examples/build32.s"),
     include_str!("../../../../examples/leak.s"),
     include_str!("../../../../examples/buserror.s"),
     include_str!("../../../../examples/buserror_lost.s"),
+    include_str!("../../../../examples/shifts.s"),
+    include_str!("../../../../examples/shifts_secret.s"),
 ];
 
 /// The length of an image that takes each of them.

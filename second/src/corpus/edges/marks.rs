@@ -93,7 +93,7 @@ fn results() -> Vec<Case> {
         edge("mov of an unmarked register over a mark", &[("mov", &[3, 5])]).marked(3, 7),
         edge("mov of a marked register", &[("mov", &[3, 5])]).marked(5, 7),
         edge("sxb of an unmarked register over a mark", &[("sxb", &[3, 5])]).marked(3, 7),
-        edge("lsl by a marked register", &[("lsl", &[3, 5])]).marked(5, 7),
+        edge("lsl by a marked register", &[("lsl", &[3, 5])]).marked(5, 7).gives(14, 0),
         edge("and with a marked register", &[("and", &[3, 5])]).marked(5, 0),
         edge("mult of a marked register by 0", &[("mult", &[3, 5])]).marked(3, 7).register(5, 0),
         edge("jl leaves marks and RA is unmarked", &[("jl", &[5]), ("movi", &[1, 1])])

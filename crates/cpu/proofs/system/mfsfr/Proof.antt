@@ -1,4 +1,5 @@
-use Rattle.cpu.specs.Exec.{exec}
+use Rattle.cpu.specs.Exec.{makes, exec}
+use Rattle.cpu.specs.Cycles.{costOf}
 use borrow.Author.Needs.{needs}
 use Rattle.cpu.proofs.system.mfsfr.Statement.{statement}
 use Rattle.cpu.proofs.system.mfsfr.Tie as tie
@@ -10,7 +11,7 @@ set-reg-requires : tie.Need-set-reg-requires
 set-reg-requires c κs = search needs
 
 returns : tie.Need-returns
-unfolding exec
+unfolding exec makes costOf
 returns c = rw (c .set-reg .ensures, c .before .sfr-of .ensures)
 
 pub mfsfr-spec : {M : Type 1} → statement M

@@ -1,4 +1,5 @@
-use Rattle.cpu.specs.Exec.{exec}
+use Rattle.cpu.specs.Exec.{makes, exec}
+use Rattle.cpu.specs.Cycles.{costOf}
 use borrow.Author.Needs.{needs}
 use Rattle.cpu.proofs.system.mtsfr.Statement.{statement}
 use Rattle.cpu.proofs.system.mtsfr.Tie as tie
@@ -16,7 +17,7 @@ both-requires : tie.Need-both-requires
 both-requires c κs = search needs
 
 returns : tie.Need-returns
-unfolding exec
+unfolding exec makes costOf
 returns c = rw (c .both .ensures, c .before .is-accepted .ensures, c .before .before .go-on .ensures, c .before .before .before .write-sfr .ensures)
 
 pub mtsfr-spec : {M : Type 1} → statement M

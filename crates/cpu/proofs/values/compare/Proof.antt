@@ -1,5 +1,6 @@
 use Rattle.cpu.specs.Exec.{cmpOf}
-use Rattle.cpu.specs.Exec.{exec}
+use Rattle.cpu.specs.Exec.{makes, exec}
+use Rattle.cpu.specs.Cycles.{costOf}
 use borrow.Author.Needs.{needs}
 use Rattle.cpu.proofs.values.compare.Statement.{statement}
 use Rattle.cpu.proofs.values.compare.Tie as tie
@@ -41,23 +42,23 @@ set-tf-requires-5 : tie.Need-set-tf-requires-5
 set-tf-requires-5 c κs = search needs
 
 returns : tie.Need-returns
-unfolding exec cmpOf
+unfolding exec makes costOf cmpOf
 returns c = rw (c .set-tf .ensures, c .before .enum-told .given .1)
 
 returns-2 : tie.Need-returns-2
-unfolding exec cmpOf
+unfolding exec makes costOf cmpOf
 returns-2 c = rw (c .set-tf2 .ensures, c .before .enum-told2 .given .1)
 
 returns-3 : tie.Need-returns-3
-unfolding exec cmpOf
+unfolding exec makes costOf cmpOf
 returns-3 c = rw (c .set-tf3 .ensures, c .before .enum-told3 .given .1)
 
 returns-4 : tie.Need-returns-4
-unfolding exec cmpOf
+unfolding exec makes costOf cmpOf
 returns-4 c = rw (c .set-tf4 .ensures, c .before .is-less .ensures, c .before .before .enum-told4 .given .1)
 
 returns-5 : tie.Need-returns-5
-unfolding exec cmpOf
+unfolding exec makes costOf cmpOf
 returns-5 c = rw (c .set-tf5 .ensures, c .before .is-less2 .ensures, c .before .before .enum-told5 .given .1)
 
 pub compare-spec : {M : Type 1} → statement M

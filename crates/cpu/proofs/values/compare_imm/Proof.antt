@@ -1,5 +1,6 @@
 use Rattle.cpu.specs.Exec.{cmpImmOf}
-use Rattle.cpu.specs.Exec.{exec}
+use Rattle.cpu.specs.Exec.{makes, exec}
+use Rattle.cpu.specs.Cycles.{costOf}
 use borrow.Author.Needs.{needs}
 use Rattle.cpu.proofs.values.compare_imm.Statement.{statement}
 use Rattle.cpu.proofs.values.compare_imm.Tie as tie
@@ -29,15 +30,15 @@ set-tf-requires-3 : tie.Need-set-tf-requires-3
 set-tf-requires-3 c κs = search needs
 
 returns : tie.Need-returns
-unfolding exec cmpImmOf
+unfolding exec makes costOf cmpImmOf
 returns c = rw (c .set-tf .ensures, c .before .enum-told .given .1)
 
 returns-2 : tie.Need-returns-2
-unfolding exec cmpImmOf
+unfolding exec makes costOf cmpImmOf
 returns-2 c = rw (c .set-tf2 .ensures, c .before .is-less .ensures, c .before .before .enum-told2 .given .1)
 
 returns-3 : tie.Need-returns-3
-unfolding exec cmpImmOf
+unfolding exec makes costOf cmpImmOf
 returns-3 c = rw (c .set-tf3 .ensures, c .before .is-less2 .ensures, c .before .before .enum-told3 .given .1)
 
 pub compare-imm-spec : {M : Type 1} → statement M

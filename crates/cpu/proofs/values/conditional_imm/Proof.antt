@@ -1,4 +1,5 @@
-use Rattle.cpu.specs.Exec.{exec}
+use Rattle.cpu.specs.Exec.{makes, exec}
+use Rattle.cpu.specs.Cycles.{costOf}
 use borrow.Author.Needs.{needs}
 use Rattle.cpu.proofs.values.conditional_imm.Statement.{statement}
 use Rattle.cpu.proofs.values.conditional_imm.Tie as tie
@@ -13,7 +14,7 @@ set-if-requires : tie.Need-set-if-requires
 set-if-requires c κs = search needs
 
 returns : tie.Need-returns
-unfolding exec
+unfolding exec makes costOf
 returns c = rw (c .set-if .ensures, c .before .plus .ensures, c .before .before .is-wanted .ensures)
 
 pub conditional-imm-spec : {M : Type 1} → statement M

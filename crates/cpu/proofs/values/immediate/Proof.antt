@@ -1,5 +1,6 @@
 use Rattle.cpu.specs.Exec.{immValue}
-use Rattle.cpu.specs.Exec.{exec}
+use Rattle.cpu.specs.Exec.{makes, exec}
+use Rattle.cpu.specs.Cycles.{costOf}
 use borrow.Author.Needs.{needs}
 use Rattle.cpu.proofs.values.immediate.Statement.{statement}
 use Rattle.cpu.proofs.values.immediate.Tie as tie
@@ -26,15 +27,15 @@ set-reg-requires-3 : tie.Need-set-reg-requires-3
 set-reg-requires-3 c κs = search needs
 
 returns : tie.Need-returns
-unfolding exec immValue
+unfolding exec makes costOf immValue
 returns c = rw (c .set-reg .ensures, c .before .enum-told .given .1)
 
 returns-2 : tie.Need-returns-2
-unfolding exec immValue
+unfolding exec makes costOf immValue
 returns-2 c = rw (c .set-reg2 .ensures, c .before .plus .ensures, c .before .before .enum-told2 .given .1)
 
 returns-3 : tie.Need-returns-3
-unfolding exec immValue
+unfolding exec makes costOf immValue
 returns-3 c = rw (c .set-reg3 .ensures, c .before .enum-told3 .given .1)
 
 pub immediate-spec : {M : Type 1} → statement M

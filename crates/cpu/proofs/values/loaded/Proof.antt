@@ -1,14 +1,15 @@
-use Rattle.cpu.specs.Exec.{exec}
+use Rattle.cpu.specs.Exec.{makes, exec}
+use Rattle.cpu.specs.Cycles.{costOf}
 use borrow.Author.Needs.{needs}
 use Rattle.cpu.proofs.values.loaded.Statement.{statement}
 use Rattle.cpu.proofs.values.loaded.Tie as tie
 
-set-reg-requires : tie.Need-set-reg-requires
-set-reg-requires c κs = search needs
+set-at-requires : tie.Need-set-at-requires
+set-at-requires c κs = search needs
 
 returns : tie.Need-returns
-unfolding exec
-returns c = rw (c .set-reg .ensures)
+unfolding exec makes costOf
+returns c = rw (c .set-at .ensures)
 
 pub loaded-spec : {M : Type 1} → statement M
-loaded-spec = tie.close (tie.spec set-reg-requires returns)
+loaded-spec = tie.close (tie.spec set-at-requires returns)

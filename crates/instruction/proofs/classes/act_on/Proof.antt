@@ -1,4 +1,5 @@
-use Rattle.cpu.specs.Exec.{exec}
+use Rattle.cpu.specs.Exec.{makes, exec}
+use Rattle.cpu.specs.Cycles.{costOf}
 use Rattle.marks.specs.Marks.{taint, blocked}
 use Rattle.instruction.specs.Act.{reachOf}
 use Rattle.instruction.specs.Act.{actOf}
@@ -196,75 +197,75 @@ long-on-requires : tie.Need-long-on-requires
 long-on-requires c κs = search needs
 
 returns : tie.Need-returns
-unfolding actOf exec taint blocked reachOf
+unfolding actOf exec makes costOf taint blocked reachOf
 returns c = rw (c .alu-on .ensures, c .before .before .i .given .1)
 
 returns-2 : tie.Need-returns-2
-unfolding actOf exec taint blocked reachOf
+unfolding actOf exec makes costOf taint blocked reachOf
 returns-2 c = rw (c .does .ensures, c .before .mark-reg .ensures, c .before .before .shift-imm .ensures, c .before .before .before .before .i2 .given .1)
 
 returns-3 : tie.Need-returns-3
-unfolding actOf exec taint blocked reachOf
+unfolding actOf exec makes costOf taint blocked reachOf
 returns-3 c = rw (c .compare-on .ensures, c .before .before .i3 .given .1)
 
 returns-4 : tie.Need-returns-4
-unfolding actOf exec taint blocked reachOf
+unfolding actOf exec makes costOf taint blocked reachOf
 returns-4 c = rw (c .does2 .ensures, c .before .mark-tf .ensures, c .before .before .compare-imm .ensures, c .before .before .before .before .i4 .given .1)
 
 returns-5 : tie.Need-returns-5
-unfolding actOf exec taint blocked reachOf
+unfolding actOf exec makes costOf taint blocked reachOf
 returns-5 c = rw (c .conditional-on .ensures, c .before .before .i5 .given .1)
 
 returns-6 : tie.Need-returns-6
-unfolding actOf exec taint blocked reachOf
+unfolding actOf exec makes costOf taint blocked reachOf
 returns-6 c = rw (c .does3 .ensures, c .before .mark-reg2 .ensures, c .before .before .either .ensures, c .before .before .before .conditional-imm .ensures, c .before .before .before .before .before .i6 .given .1)
 
 returns-7 : tie.Need-returns-7
-unfolding actOf exec taint blocked reachOf
+unfolding actOf exec makes costOf taint blocked reachOf
 returns-7 c = rw (c .load-pc .ensures, c .before .before .i7 .given .1)
 
 returns-8 : tie.Need-returns-8
-unfolding actOf exec taint blocked reachOf
+unfolding actOf exec makes costOf taint blocked reachOf
 returns-8 c = rw (c .does4 .ensures, c .before .mark-imm .ensures, c .before .before .immediate .ensures, c .before .before .before .before .i8 .given .1)
 
 returns-9 : tie.Need-returns-9
-unfolding actOf exec taint blocked reachOf
+unfolding actOf exec makes costOf taint blocked reachOf
 returns-9 c = rw (c .load-on .ensures, c .before .before .i9 .given .1)
 
 returns-10 : tie.Need-returns-10
-unfolding actOf exec taint blocked reachOf
+unfolding actOf exec makes costOf taint blocked reachOf
 returns-10 c = rw (c .store-at .ensures, c .before .data-address .ensures, c .before .before .before .i10 .given .1)
 
 returns-11 : tie.Need-returns-11
-unfolding actOf exec taint blocked reachOf
+unfolding actOf exec makes costOf taint blocked reachOf
 returns-11 c = rw (c .does5 .ensures, c .before .mark-reg3 .ensures, c .before .before .is-sfr-marked .ensures, c .before .before .before .mfsfr .ensures, c .before .before .before .before .before .i11 .given .1)
 
 returns-12 : tie.Need-returns-12
-unfolding actOf exec taint blocked reachOf
+unfolding actOf exec makes costOf taint blocked reachOf
 returns-12 c = rw (c .stop-if .ensures, c .before .does6 .ensures, c .before .before .mark-mtsfr .ensures, c .before .before .before .mtsfr .ensures, c .before .before .before .before .before .i12 .given .1)
 
 returns-13 : tie.Need-returns-13
-unfolding actOf exec taint blocked reachOf
+unfolding actOf exec makes costOf taint blocked reachOf
 returns-13 c = rw (c .stop-if2 .ensures, c .before .does7 .ensures, c .before .before .keep .ensures, c .before .before .before .jr .ensures, c .before .before .before .before .enum-told .given .1)
 
 returns-14 : tie.Need-returns-14
-unfolding actOf exec taint blocked reachOf
+unfolding actOf exec makes costOf taint blocked reachOf
 returns-14 c = rw (c .stop-if3 .ensures, c .before .does8 .ensures, c .before .before .keep2 .ensures, c .before .before .before .jrl .ensures, c .before .before .before .before .enum-told2 .given .1)
 
 returns-15 : tie.Need-returns-15
-unfolding actOf exec taint blocked reachOf
+unfolding actOf exec makes costOf taint blocked reachOf
 returns-15 c = rw (c .stop-if4 .ensures, c .before .does9 .ensures, c .before .before .keep3 .ensures, c .before .before .before .jsfr .ensures, c .before .before .before .before .is-sfr-marked2 .ensures, c .before .before .before .before .before .before .i13 .given .1)
 
 returns-16 : tie.Need-returns-16
-unfolding actOf exec taint blocked reachOf
+unfolding actOf exec makes costOf taint blocked reachOf
 returns-16 c = rw (c .keep4 .ensures, c .before .swint .ensures, c .before .before .before .i14 .given .1)
 
 returns-17 : tie.Need-returns-17
-unfolding actOf exec taint blocked reachOf
+unfolding actOf exec makes costOf taint blocked reachOf
 returns-17 c = rw (c .short-on .ensures, c .before .before .i15 .given .1)
 
 returns-18 : tie.Need-returns-18
-unfolding actOf exec taint blocked reachOf
+unfolding actOf exec makes costOf taint blocked reachOf
 returns-18 c = rw (c .long-on .ensures, c .before .before .i16 .given .1)
 
 pub act-on-spec : {M : Type 1} → statement M

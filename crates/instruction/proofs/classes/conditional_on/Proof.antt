@@ -1,4 +1,5 @@
-use Rattle.cpu.specs.Exec.{exec}
+use Rattle.cpu.specs.Exec.{makes, exec}
+use Rattle.cpu.specs.Cycles.{costOf}
 use Rattle.marks.specs.Marks.{taint}
 use borrow.Author.Needs.{needs}
 use Rattle.instruction.proofs.classes.conditional_on.Statement.{statement}
@@ -17,7 +18,7 @@ does-requires : tie.Need-does-requires
 does-requires c κs = search needs
 
 returns : tie.Need-returns
-unfolding taint exec
+unfolding taint exec makes costOf
 returns c = rw (c .does .ensures, c .before .mark-conditional .ensures, c .before .before .conditional .ensures, c .before .before .before .is-wanted .ensures)
 
 pub conditional-on-spec : {M : Type 1} → statement M

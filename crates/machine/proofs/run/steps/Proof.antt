@@ -44,10 +44,10 @@ end-at-requires : tie.Need-end-at-requires Inv-loop μ-loop
 end-at-requires c κs = search needs
 
 same-length : tie.Need-same-length Inv-loop μ-loop
-same-length c = search needs
+same-length c = let e = c .before .before .before .before .before .before .before .before .before .before .before .before .before .before .loop .inv .1 in search needs
 
 same-length-2 : tie.Need-same-length-2 Inv-loop μ-loop
-same-length-2 c = search needs
+same-length-2 c = let e = c .before .before .before .before .before .before .before .before .before .before .before .before .before .before .loop .inv .2 in search needs
 
 returns : tie.Need-returns Inv-loop μ-loop
 returns c =

@@ -1,3 +1,4 @@
+use Rattle.cpu.specs.Cycles.{entryCost}
 use borrow.Author.Needs.{needs}
 use Rattle.machine.proofs.step.halt.Statement.{statement}
 use Rattle.machine.proofs.step.halt.Tie as tie
@@ -11,8 +12,8 @@ enum-told c = search needs
 fetch-error-requires : tie.Need-fetch-error-requires
 fetch-error-requires c κs = search needs
 
-fall-requires : tie.Need-fall-requires
-fall-requires c κs = search needs
+pass-requires : tie.Need-pass-requires
+pass-requires c κs = search needs
 
 enum-told-2 : tie.Need-enum-told-2
 enum-told-2 c = search needs
@@ -29,11 +30,12 @@ enum-told-5 c = search needs
 data-error-requires : tie.Need-data-error-requires
 data-error-requires c κs = search needs
 
-fall-requires-2 : tie.Need-fall-requires-2
-fall-requires-2 c κs = search needs
+pass-requires-2 : tie.Need-pass-requires-2
+pass-requires-2 c κs = search needs
 
 returns : tie.Need-returns
-returns c = rw (c .fall .ensures, c .before .fetch-error .ensures, c .before .before .before .before .is-on .ensures, c .before .before .enum-told .given .1)
+unfolding entryCost
+returns c = rw (c .pass .ensures, c .before .fetch-error .ensures, c .before .before .before .before .is-on .ensures, c .before .before .enum-told .given .1)
 
 returns-2 : tie.Need-returns-2
 returns-2 c = rw (c .enum-told2 .given .1)
@@ -45,7 +47,8 @@ returns-4 : tie.Need-returns-4
 returns-4 c = rw (c .enum-told4 .given .1)
 
 returns-5 : tie.Need-returns-5
-returns-5 c = rw (c .fall2 .ensures, c .before .data-error .ensures, c .before .before .before .before .is-on .ensures, c .before .before .enum-told5 .given .1)
+unfolding entryCost
+returns-5 c = rw (c .pass2 .ensures, c .before .data-error .ensures, c .before .before .before .before .is-on .ensures, c .before .before .enum-told5 .given .1)
 
 pub halt-spec : {M : Type 1} → statement M
 halt-spec =
@@ -54,13 +57,13 @@ halt-spec =
     is-on-requires
     enum-told
     fetch-error-requires
-    fall-requires
+    pass-requires
     enum-told-2
     enum-told-3
     enum-told-4
     enum-told-5
     data-error-requires
-    fall-requires-2
+    pass-requires-2
     returns
     returns-2
     returns-3
