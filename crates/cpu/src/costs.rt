@@ -2,7 +2,6 @@
 ghost use mathlib.Core.Path.{_≡_};
 ghost use Rattle.cpu.specs.Cycles.{shiftCost};
 
-// A match on the amount's eighth costs the compiler fewer instructions than three comparisons.
 pub fn shift_cost(n: u32) -> u8
     ensures { λ r. ⌜ r ≡ shiftCost n ⌝ }
 {
