@@ -1,4 +1,4 @@
--- One step of the machine over any rules, from two states that differ in r1 alone, which is marked: 0 in one and 1 in the other.
+-- One step of the machine over any rules, from two states that differ in r1 alone, which is marked.
 -- Assumes nothing.
 use Prim.Native.Nat.{ℕ, zero, suc}
 use mathlib.Core.Path.{_≡_, refl, sym, ap, _∙_}
@@ -17,7 +17,7 @@ use Rattle.cpu.specs.Control.{withPc, withSfr, cy, withCycles}
 use Rattle.cpu.specs.declared.Control.{Control}
 use Rattle.cpu.specs.Entries.{entered, isBreak, fallen, passed}
 use Rattle.cpu.specs.Exec.{onward, carried, written, makes, exec, sourcesOf, dataAddress}
-use Rattle.cpu.specs.Cycles.{costOf, entryCost, aluCost}
+use Rattle.cpu.specs.Cycles.{shiftCost, aluCost, costOf, entryCost}
 use Rattle.instruction.specs.Fetch.{halfAt, fetchOf}
 use Rattle.instruction.specs.Act.{reachOf}
 use Rattle.machine.specs.State.{freshState, outOfForm}
@@ -57,9 +57,9 @@ module _ (q : Rules) where
   abbrev stepped : List ℕ → ℕ → Final
   stepped p v = runWith q 1 zeros (secret v) p zeros
 
-  alike : TwoRuns (runWith q) → (p : List ℕ) → SameFinal (stepped p 0) (stepped p 1)
+  alike : TwoRuns (runWith q) → (p : List ℕ) (v w : ℕ) → SameFinal (stepped p v) (stepped p w)
   unfolding TwoRuns
-  alike h p = h 1 zeros (secret 0) (secret 1) p p zeros (secrets-same 0 1) (record { long = refl; equal = λ i e. refl })
+  alike h p v w = h 1 zeros (secret v) (secret w) p p zeros (secrets-same v w) (record { long = refl; equal = λ i e. refl })
 
   -- ---- mtsfr sfr5,r1: SFR 5 is r1
 
@@ -74,7 +74,7 @@ module _ (q : Rules) where
     pub mtsfr-leaks : TwoRuns (runWith q) → ⊥
     unfolding withSfr
     mtsfr-leaks h =
-        let e : _≡_ {A = ℕ} 0 1 = sym (usreg 0) ∙ ap (λ (c : Control). c .usreg) (alike h mtsfr .state .control .rest) ∙ usreg 1 in
+        let e : _≡_ {A = ℕ} 0 1 = sym (usreg 0) ∙ ap (λ (c : Control). c .usreg) (alike h mtsfr 0 1 .state .control .rest) ∙ usreg 1 in
         omega arith
 
   -- ---- sub r0,r1: CY is the borrow of 0 - r1
@@ -90,7 +90,22 @@ module _ (q : Rules) where
     borrows = (rw goes, rw goes, rw goes keeps)
 
     pub sub-leaks : TwoRuns (runWith q) → ⊥
-    sub-leaks h = true≢false (sym (borrows .1) ∙ sym (alike h sub .state .control .psw .cy (borrows .2)) ∙ borrows .0)
+    sub-leaks h = true≢false (sym (borrows .1) ∙ sym (alike h sub 0 1 .state .control .psw .cy (borrows .2)) ∙ borrows .0)
+
+  -- ---- lsl r0,r1: a shift by 0 costs 2 cycles, and one by 8 costs 3
+
+  abbrev lsl : List ℕ
+  lsl = 0x2c ∷ 0x01 ∷ 0 ∷ 0 ∷ []
+
+  module _ (goes : q .blocked (Instr.Alu AluOp.Lsl 0 1) true unmarked ≡ false) where
+    costs : (stepped lsl 0 .ended .cycles ≡ 2) × (stepped lsl 8 .ended .cycles ≡ 3)
+    unfolding load any anyAbove kindOf operandsOf decodeOf withPc withSfr entered isBreak fallen passed entryCost withCycles onward carried exec makes costOf aluCost shiftCost sourcesOf halfAt fetchOf reachOf outOfForm chosen doneOf after judge goOn actWith instrStepWith stepWith stepsWith runWith
+    costs = (rw goes, rw goes)
+
+    pub shift-leaks : TwoRuns (runWith q) → ⊥
+    shift-leaks h =
+        let e : _≡_ {A = ℕ} 2 3 = sym (costs .0) ∙ alike h lsl 0 8 .cycles ∙ costs .1 in
+        omega arith
 
   -- ---- strb r1,3,r0: the byte at 3 is r1's lowest
 
@@ -105,5 +120,5 @@ module _ (q : Rules) where
 
     pub store-leaks : TwoRuns (runWith q) → ⊥
     store-leaks h =
-        let e : _≡_ {A = ℕ} 0 1 = sym (stores .0) ∙ alike h strb .mem .equal 3 (stores .2) ∙ stores .1 in
+        let e : _≡_ {A = ℕ} 0 1 = sym (stores .0) ∙ alike h strb 0 1 .mem .equal 3 (stores .2) ∙ stores .1 in
         omega arith

@@ -21,12 +21,12 @@ use Rattle.machine.specs.declared.State.{State}
 use Rattle.secrecy.proofs.Theorems.{two-runs}
 use Rattle.wrong.specs.Models.{refusesAtOnce, stopsAtOnce, constantReply, changesNothing, firstStepOnly, inventedCount, marksEverything}
 use Rattle.wrong.specs.Statements.{IsRun, TwoRuns}
-use Rattle.wrong.specs.Rules.{Rules, trueRules, runWith, unmarked, begins, mtsfrGoes, subKeepsCy, storeKeepsMarks}
+use Rattle.wrong.specs.Rules.{Rules, trueRules, runWith, unmarked, begins, mtsfrGoes, shiftGoes, subKeepsCy, storeKeepsMarks}
 use Rattle.wrong.proofs.Runs.{zeros, program, moved-0, moved-on, no-instruction, differs, one-reply}
 use Rattle.secrecy.proofs.Control.{cycles-same}
 use Rattle.wrong.proofs.Same.{unless-same, counted-same, steps-same, end-marked}
 use Rattle.wrong.proofs.Rules.{run-true}
-use Rattle.wrong.proofs.Leaks.{mtsfr-leaks, sub-leaks, store-leaks}
+use Rattle.wrong.proofs.Leaks.{mtsfr-leaks, shift-leaks, sub-leaks, store-leaks}
 
 -- ---- 1. "Demand 2 shuts out all" of them: none is runOf
 
@@ -110,10 +110,13 @@ pub true-rules-are : IsRun (runWith trueRules)
 unfolding IsRun
 true-rules-are = run-true
 
--- Whatever the other rules are: mtsfr of a marked register must stop, sub of one must mark CY, and a stored byte must take the register's mark
+-- Whatever the other rules are: mtsfr of a marked register and a shift by one must stop, sub of one must mark CY, and a stored byte must take the register's mark
 module _ (q : Rules) where
   pub mtsfr-must-stop : q .blocked (Instr.Mtsfr 5 1) true unmarked ≡ false → TwoRuns (runWith q) → ⊥
   mtsfr-must-stop = mtsfr-leaks q
+
+  pub shift-must-stop : q .blocked (Instr.Alu AluOp.Lsl 0 1) true unmarked ≡ false → TwoRuns (runWith q) → ⊥
+  shift-must-stop = shift-leaks q
 
   pub sub-must-mark : q .blocked (Instr.Alu AluOp.Sub 0 1) true unmarked ≡ false
       → q .taint (Instr.Alu AluOp.Sub 0 1) false true false false unmarked .flags .cy ≡ false → TwoRuns (runWith q) → ⊥
@@ -126,6 +129,10 @@ module _ (q : Rules) where
 pub mtsfr-goes-leaks : TwoRuns (runWith mtsfrGoes) → ⊥
 unfolding blocked encodeOf nibsOf begins
 mtsfr-goes-leaks = mtsfr-must-stop mtsfrGoes refl
+
+pub shift-goes-leaks : TwoRuns (runWith shiftGoes) → ⊥
+unfolding blocked aluBlocked encodeOf nibsOf begins
+shift-goes-leaks = shift-must-stop shiftGoes refl
 
 pub sub-keeps-cy-leaks : TwoRuns (runWith subKeepsCy) → ⊥
 unfolding blocked aluBlocked taint encodeOf nibsOf begins

@@ -116,6 +116,10 @@ begins n i = eqb (byteIn (encodeOf i)) n
 abbrev pub mtsfrGoes : Rules
 mtsfrGoes = record { blocked = λ i y f. blocked i (y && not (begins 0x13 i)) f; taint = taint; stored = markAll }
 
+-- lsl, 0x2c, is not stopped by a marked amount
+abbrev pub shiftGoes : Rules
+shiftGoes = record { blocked = λ i y f. blocked i (y && not (begins 0x2c i)) f; taint = taint; stored = markAll }
+
 -- sub, 0x20, leaves CY's mark as it was
 abbrev pub subKeepsCy : Rules
 subKeepsCy = record {
