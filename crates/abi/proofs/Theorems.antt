@@ -91,7 +91,7 @@ no-record r m k t b e = rw e
 number-above : (q : Reply) → 0 < numberOf q
 number-above Reply.MemoryLength = omega arith
 number-above Reply.MarkLength = omega arith
-number-above Reply.MarkByte = omega arith
+number-above Reply.MarkPastEnd = omega arith
 number-above Reply.Form = omega arith
 number-above Reply.TapeLength = omega arith
 number-above Reply.TapeByte = omega arith

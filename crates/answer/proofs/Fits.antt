@@ -55,7 +55,7 @@ registers-fit (suc n) i regs marks h =
 reply-small : (r : Reply) → numberOf r < 100
 reply-small Reply.MemoryLength = omega arith
 reply-small Reply.MarkLength = omega arith
-reply-small Reply.MarkByte = omega arith
+reply-small Reply.MarkPastEnd = omega arith
 reply-small Reply.Form = omega arith
 reply-small Reply.TapeLength = omega arith
 reply-small Reply.TapeByte = omega arith

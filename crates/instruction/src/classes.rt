@@ -73,7 +73,7 @@ fn load_at(
 {
     if word::is_inside(w, m, at) {
         let e = cpu::loaded(d, word::load(w, m, at), c);
-        let t = marks::mark_reg(marks::is_marked(w, mk, at), tf, cy);
+        let t = marks::mark_reg(marks::memory::is_marked(w, mk, at), tf, cy);
         return stop_if(marked, Act::Does(e, t, Reach::Reads(w, at)));
     }
     halt_outside(marked)

@@ -21,7 +21,7 @@ fn read_half(at: ByteAddr, m: &[u8], mk: &[u8]) -> Half
     ensures { λ r. ⌜ r ≡ halfOf at (now (m .entry)) (now (mk .entry)) ⌝ }
 {
     if word::is_inside(Width::Half, m, at) {
-        if marks::is_marked(Width::Half, mk, at) {
+        if marks::memory::is_marked(Width::Half, mk, at) {
             return Half::Halted(Halt::FetchMarked);
         }
         return Half::Bits(half_at(m, at));

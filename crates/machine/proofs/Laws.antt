@@ -325,10 +325,10 @@ long-tape b t s m k e =
     let six : Judged = cond (anyAbove 63 (take b t)) (Judged.Refused Reply.TapeByte) Judged.Good in
     let five : Judged = cond (ltb (length t) b) (Judged.Refused Reply.TapeLength) six in
     let four : Judged = cond (outOfForm (s .control)) (Judged.Refused Reply.Form) five in
-    let three : Judged = cond (badMark k) (Judged.Refused Reply.MarkByte) four in
+    let three : Judged = cond (badMark k) (Judged.Refused Reply.MarkPastEnd) four in
     let two : Judged = cond (not (eqb (length k) (length m))) (Judged.Refused Reply.MarkLength) three in
     let b1 : two ≡ Judged.Good = passes (badLength (length m)) Reply.MemoryLength two e .1 in
     let b2 : three ≡ Judged.Good = passes (not (eqb (length k) (length m))) Reply.MarkLength three b1 .1 in
-    let b3 : four ≡ Judged.Good = passes (badMark k) Reply.MarkByte four b2 .1 in
+    let b3 : four ≡ Judged.Good = passes (badMark k) Reply.MarkPastEnd four b2 .1 in
     let b4 : five ≡ Judged.Good = passes (outOfForm (s .control)) Reply.Form five b3 .1 in
     ltb-false (length t) b (passes (ltb (length t) b) Reply.TapeLength six b4 .0)

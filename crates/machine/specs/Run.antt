@@ -32,7 +32,7 @@ unfoldable pub judge : ℕ → List ℕ → State → List ℕ → List ℕ → 
 judge b t s m k =
     cond (badLength (length m)) (Judged.Refused Reply.MemoryLength)
     (cond (not (eqb (length k) (length m))) (Judged.Refused Reply.MarkLength)
-    (cond (badMark k) (Judged.Refused Reply.MarkByte)
+    (cond (badMark k) (Judged.Refused Reply.MarkPastEnd)
     (cond (outOfForm (s .control)) (Judged.Refused Reply.Form)
     (cond (ltb (length t) b) (Judged.Refused Reply.TapeLength)
     (cond (anyAbove 63 (take b t)) (Judged.Refused Reply.TapeByte)

@@ -36,12 +36,11 @@ pub fn judge_all(b: usize, t: &[u8], s: State, m: &[u8], k: &[u8]) -> Judged
         return Judged::Refused(Reply::MemoryLength);
     }
     let n = m.len();
-    let l = k.len();
-    if l != n {
+    if marks::memory::is_bad_room(n, k) {
         return Judged::Refused(Reply::MarkLength);
     }
-    if marks::has_bad_mark(k) {
-        return Judged::Refused(Reply::MarkByte);
+    if marks::memory::has_bad_mark(n, k) {
+        return Judged::Refused(Reply::MarkPastEnd);
     }
     let c = s.control;
     if is_out_of_form(c) {

@@ -127,7 +127,7 @@ fn write_at(r: Reach, u: u32, mu: bool, m: &mut [u8], mk: &mut [u8])
         Reach::Reads(_, _) => {}
         Reach::Writes(w, a) => {
             word::store(w, m, a, u);
-            marks::set_marks(w, mk, a, mu);
+            marks::memory::set_marks(w, mk, a, mu);
         }
         Reach::Raises(_) => {}
     }

@@ -111,7 +111,7 @@ fn mark_bytes(a: u32, c: u32, k: &mut [u8])
 {
     let mut i: u32 = 0;
     while i < c {
-        marks::set_marks(Width::Byte, k, ByteAddr(a + i), true);
+        marks::memory::set_marks(Width::Byte, k, ByteAddr(a + i), true);
         i += 1;
     }
 }

@@ -110,7 +110,7 @@ judge-same b t {k = k} s mem =
     ap₂ (λ (l : ℕ) (x : Bool).
     cond (badLength l) (Judged.Refused Reply.MemoryLength)
     (cond (not (eqb (length k) l)) (Judged.Refused Reply.MarkLength)
-    (cond (badMark k) (Judged.Refused Reply.MarkByte)
+    (cond (badMark k) (Judged.Refused Reply.MarkPastEnd)
     (cond x (Judged.Refused Reply.Form)
     (cond (ltb (length t) b) (Judged.Refused Reply.TapeLength)
     (cond (anyAbove 63 (take b t)) (Judged.Refused Reply.TapeByte)
