@@ -1,6 +1,7 @@
 // Refusals 1 to 6.
 ghost use mathlib.Core.Path.{_≡_};
 ghost use Prim.Native.Nat.{ℕ};
+ghost use Rattle.marks.specs.Memory.{bits};
 ghost use Rattle.machine.specs.State.{outOfForm};
 ghost use Rattle.machine.specs.Run.{badLength, judge};
 use crate::Judged;
@@ -30,7 +31,7 @@ fn is_out_of_form(c: Control) -> bool
 }
 
 pub fn judge_all(b: usize, t: &[u8], s: State, m: &[u8], k: &[u8]) -> Judged
-    ensures { λ r. ⌜ r ≡ judge b (now (t .entry)) s (now (m .entry)) (now (k .entry)) ⌝ }
+    ensures { λ r. ⌜ r ≡ judge b (now (t .entry)) s (now (m .entry)) (bits (now (k .entry))) ⌝ }
 {
     if is_bad_length(m.len()) {
         return Judged::Refused(Reply::MemoryLength);

@@ -188,3 +188,20 @@ off-past k i h = ap (λ (n : ℕ). on n (i % 8)) (List·getD-eq-default k 0 h) �
 
 pub put-past : (k : List ℕ) (i : ℕ) (b : Bool) → length k ≤ i / 8 → markPut (bits k) i b ≡ bits k
 put-past k i b h = ap bits (set-out k (i / 8) _ h)
+
+-- a slice of the right length has a place for each byte of memory
+pub room-has : (n : ℕ) (k : Marks) → badRoom n k ≡ false → (i : ℕ) → i < n → Has k i
+room-has n (bits k) e i l = let q : length k ≡ (n + 7) / 8 = eqb-true _ _ (not-false _ e) in omega arith
+room-has n (bytes k) e i l = let q : length k ≡ n = eqb-true _ _ (not-false _ e) in omega arith
+
+-- those that are put, where the slice has places for them
+pub puts-same : (n : ℕ) (k : Marks) (i j : ℕ) (b : Bool) → j < n → Has k (i + j) → markAt (putMarks n k i b) (i + j) ≡ b
+unfolding putMarks
+puts-same zero k i j b l h = absurd (omega arith)
+puts-same (suc n) k i j b l h = go (ℕ-discrete j n) (λ q. puts-same n k i j b q h)
+  where
+    go : Dec (j ≡ n) → (j < n → markAt (putMarks n k i b) (i + j) ≡ b) → markAt (markPut (putMarks n k i b) (i + n) b) (i + j) ≡ b
+    go (yes e) f =
+        ap (λ (m : ℕ). markAt (markPut (putMarks n k i b) (i + n) b) (i + m)) e
+        ∙ put-same (putMarks n k i b) (i + n) b (has-puts n k i (i + n) b (subst (λ (m : ℕ). Has k (i + m)) e h))
+    go (no ne) f = put-other (putMarks n k i b) (i + n) (i + j) b (λ e. ne (omega arith)) ∙ f (omega (arith, ne))

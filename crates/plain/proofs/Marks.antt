@@ -18,7 +18,7 @@ use Rattle.isa.specs.declared.LongOp.{LongOp}
 use Rattle.isa.specs.declared.Instr.{Instr}
 use Rattle.instruction.specs.declared.Reach.{Reach}
 use Rattle.marks.specs.Marks.{aluMark, aluFlags, condMark, immMark, sfrMark, with, taint, aluBlocked, shortBlocked, longBlocked, blocked}
-use Rattle.marks.specs.Memory.{badMark}
+use Rattle.marks.specs.Memory.{Marks, badMark}
 use Rattle.word.specs.Bytes.{anyAbove}
 use Rattle.marks.specs.declared.Flags.{Flags}
 use Rattle.instruction.specs.Act.{loadedMark}
@@ -49,12 +49,12 @@ same true x = refl
 same false x = refl
 
 -- a mark slice of zeros alone is no refusal 3
-pub above-off : (k : List ℕ) → ((i : ℕ) → getD k i 0 ≡ 0) → badMark k ≡ false
+pub above-off : (k : Marks) → ((i : ℕ) → getD k i 0 ≡ 0) → badMark k ≡ false
 unfolding anyAbove
 above-off [] z = refl
 above-off (x ∷ k) z = let e : x ≡ 0 = z 0 in rw e (above-off k (λ i. z (suc i)))
 
-module _ (k : List ℕ) (z : (i : ℕ) → getD k i 0 ≡ 0) where
+module _ (k : Marks) (z : (i : ℕ) → getD k i 0 ≡ 0) where
   any-off : (n a : ℕ) → any n k a ≡ false
   unfolding any
   any-off zero a = refl

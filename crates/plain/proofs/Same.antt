@@ -20,6 +20,7 @@ use Rattle.cpu.specs.declared.Control.{Control}
 use Rattle.cpu.specs.declared.Effect.{Effect}
 use Rattle.cpu.specs.declared.Entry.{Entry}
 use Rattle.marks.specs.Marks.{with}
+use Rattle.marks.specs.Memory.{Marks}
 use Rattle.marks.specs.declared.Flags.{Flags}
 use Rattle.instruction.specs.Fetch.{guarded, found, fetchOf}
 use Rattle.instruction.specs.Act.{Val, reachOf, outside, loadedFrom, actOf}
@@ -48,7 +49,7 @@ unmarked s = record { regs = s .regs; marks = replicate 16 false; flags = none; 
 -- ---- one step
 
 -- a step of the one machine and of the other, from state s, memory m and mark slice k: both stop alike, or come to the same state and memory
-data Agree (s : Core) (k : List ℕ) : Stepped → Outcome → Type 0 where
+data Agree (s : Core) (k : Marks) : Stepped → Outcome → Type 0 where
   stops : (r : Reply) → Agree s k (halted r) (stopped r)
   goes : (c : Control) (r v : ℕ) (l : List ℕ) (x : Line)
       → Agree s k (made (record { control = c; flags = none; reg = r; value = v; mark = false }) l k x)
@@ -61,7 +62,7 @@ and-true : (b : Bool) → (b && true) ≡ b
 and-true true = refl
 and-true false = refl
 
-module _ (k : List ℕ) (z : (i : ℕ) → getD k i 0 ≡ 0) where
+module _ (k : Marks) (z : (i : ℕ) → getD k i 0 ≡ 0) where
   guarded-same : (a : ByteAddr) (m : List ℕ) (x : Fetched) → guarded a m k x ≡ reached a m x
   guarded-same a m x = rw (anyOf-off k z Width.Half a)
 
@@ -123,7 +124,7 @@ module _ (k : List ℕ) (z : (i : ℕ) → getD k i 0 ≡ 0) where
 
   -- ---- a run
 
-  goes-on : (n : ℕ) (s : Core) (m : List ℕ) (further : State → List ℕ → List ℕ → Final) (plainly : Core → List ℕ → Result)
+  goes-on : (n : ℕ) (s : Core) (m : List ℕ) (further : State → List ℕ → Marks → Final) (plainly : Core → List ℕ → Result)
       → ((u : Core) (l : List ℕ) → further (unmarked u) l k ≡ beside (plainly u l) (unmarked u) k) → (x : Stepped) (o : Outcome) → Agree s k x o
       → goOn further n (unmarked s) m k x ≡ beside (goOnPlain plainly n s m o) (unmarked s) k
   unfolding goOn goOnPlain after
@@ -151,12 +152,12 @@ module _ (k : List ℕ) (z : (i : ℕ) → getD k i 0 ≡ 0) where
   unmarked-same b t s m e = rw (judge-same b t s m e) (judged-same (refusal b t s m) b t s m)
 
 -- a state with clean marks is its core, unmarked
-is-unmarked : (s : State) (m k : List ℕ) → Clean s m k → s ≡ unmarked (coreOf s)
+is-unmarked : (s : State) (m : List ℕ) (k : Marks) → Clean s m k → s ≡ unmarked (coreOf s)
 is-unmarked s m k c =
     ap₂ (λ (l : List Bool) (f : Flags). record { regs = s .regs; marks = l; flags = f; control = s .control }) (c .regs)
     (ap₂ (λ (t y : Bool). record { tf = t; cy = y }) (c .tf) (c .cy))
 
-pub run-same : (b : ℕ) (t : List ℕ) (s : State) (m k : List ℕ) → Clean s m k → runOf b t s m k ≡ beside (run b t (coreOf s) m) s k
+pub run-same : (b : ℕ) (t : List ℕ) (s : State) (m : List ℕ) (k : Marks) → Clean s m k → runOf b t s m k ≡ beside (run b t (coreOf s) m) s k
 run-same b t s m k c =
     subst (λ (u : State). runOf b t u m k ≡ beside (run b t (coreOf s) m) u k) (sym (is-unmarked s m k c))
     (unmarked-same k (c .bytes) b t (coreOf s) m (c .size))

@@ -7,6 +7,7 @@ use mathlib.Core.Bool.{false≢true, _||_}
 use mathlib.Core.List.{List}
 use lib.ListN.{length, replicate, length-replicate}
 use lib.Dec.{eqb}
+use Rattle.marks.specs.Memory.{Marks}
 use Rattle.instruction.specs.Reply.{numberOf}
 use Rattle.machine.specs.State.{freshState}
 use Rattle.machine.specs.Run.{runOf}
@@ -18,14 +19,14 @@ use Rattle.plain.proofs.Same.{run-same}
 use Rattle.plain.proofs.Never.{clean-fine}
 
 -- 1. With nothing marked, the run is the run of the machine without marks, in reply, steps, registers, control and memory, and all marks stay (Same.antt).
-pub run-is-plain : (b : ℕ) (t : List ℕ) (s : State) (m k : List ℕ) → Clean s m k → runOf b t s m k ≡ beside (run b t (coreOf s) m) s k
+pub run-is-plain : (b : ℕ) (t : List ℕ) (s : State) (m : List ℕ) (k : Marks) → Clean s m k → runOf b t s m k ≡ beside (run b t (coreOf s) m) s k
 run-is-plain b t s m k c = run-same b t s m k c
 
 -- 2. With nothing marked, stop 12, an "instruction fetch from a marked byte", and stop 14, "a marked operand where none may be", never come (Never.antt).
-pub never-12 : (b : ℕ) (t : List ℕ) (s : State) (m k : List ℕ) → Clean s m k → numberOf (runOf b t s m k .ended .reply) ≢ 12
+pub never-12 : (b : ℕ) (t : List ℕ) (s : State) (m : List ℕ) (k : Marks) → Clean s m k → numberOf (runOf b t s m k .ended .reply) ≢ 12
 never-12 b t s m k c e = false≢true (sym (clean-fine b t s m k c) ∙ ap (λ (n : ℕ). eqb n 12 || eqb n 14) e)
 
-pub never-14 : (b : ℕ) (t : List ℕ) (s : State) (m k : List ℕ) → Clean s m k → numberOf (runOf b t s m k .ended .reply) ≢ 14
+pub never-14 : (b : ℕ) (t : List ℕ) (s : State) (m : List ℕ) (k : Marks) → Clean s m k → numberOf (runOf b t s m k .ended .reply) ≢ 14
 never-14 b t s m k c e = false≢true (sym (clean-fine b t s m k c) ∙ ap (λ (n : ℕ). eqb n 12 || eqb n 14) e)
 
 -- 3. Something is clean: the fresh state, beside any memory and as many zeros (Marks.antt).

@@ -5,12 +5,13 @@ use mathlib.Core.Path.{_≡_}
 use mathlib.Core.Bool.{false}
 use mathlib.Core.List.{List}
 use lib.ListN.{length, getD, replicate}
+use Rattle.marks.specs.Memory.{Marks}
 use Rattle.machine.specs.Run.{Final, final}
 use Rattle.machine.specs.declared.State.{State}
 use Rattle.plain.specs.Plain.{Core, Result}
 
 -- the marks of state s and the mark slice k of memory m say that nothing is marked
-pub record Clean (s : State) (m k : List ℕ) : Type 0 where
+pub record Clean (s : State) (m : List ℕ) (k : Marks) : Type 0 where
   pub bytes : (i : ℕ) → getD k i 0 ≡ 0
   pub size : length k ≡ length m
   pub regs : s .marks ≡ replicate 16 false

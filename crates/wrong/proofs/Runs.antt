@@ -13,6 +13,7 @@ use Rattle.cpu.specs.Entries.{entered, isBreak, fallen, passed}
 use Rattle.cpu.specs.Exec.{onward, immValue, makes, exec, sourcesOf}
 use Rattle.cpu.specs.Cycles.{costOf, entryCost, aluCost}
 use Rattle.marks.specs.Marks.{immMark, taint, blocked}
+use Rattle.marks.specs.Memory.{Marks}
 use Rattle.instruction.specs.Fetch.{halfAt, fetchOf}
 use Rattle.instruction.specs.Act.{reachOf, actOf}
 use Rattle.instruction.specs.declared.Reply.{Reply}
@@ -72,7 +73,7 @@ abbrev replyOf : Final → Reply
 replyOf f = f .ended .reply
 
 -- no memory is refused, and a budget of 0 is used up: no reply serves for both
-pub one-reply : (w : Model) (r : Reply) → ((b : ℕ) (t : List ℕ) (s : State) (m k : List ℕ) → replyOf (w b t s m k) ≡ r) → IsRun w → ⊥
+pub one-reply : (w : Model) (r : Reply) → ((b : ℕ) (t : List ℕ) (s : State) (m : List ℕ) (k : Marks) → replyOf (w b t s m k) ≡ r) → IsRun w → ⊥
 unfolding IsRun
 one-reply w r always is =
     let e : r ≡ Reply.MemoryLength = sym (always 0 [] freshState [] []) ∙ ap replyOf (is 0 [] freshState [] [] ∙ no-memory) in

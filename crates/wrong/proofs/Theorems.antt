@@ -14,6 +14,7 @@ use Rattle.isa.specs.declared.AluOp.{AluOp}
 use Rattle.isa.specs.declared.Instr.{Instr}
 use Rattle.cpu.specs.Control.{withPc, withCycles}
 use Rattle.marks.specs.Marks.{taint, aluBlocked, blocked}
+use Rattle.marks.specs.Memory.{Marks}
 use Rattle.instruction.specs.declared.Reply.{Reply}
 use Rattle.machine.specs.State.{freshState}
 use Rattle.machine.specs.Run.{Final, runOf}
@@ -51,7 +52,7 @@ unfolding firstStepOnly withPc withCycles
 first-step-only-out = differs firstStepOnly (λ f. f .ended .state .control .pc) 2 program (rw (moved-on .1, moved-on .0) (λ e. omega arith))
 
 -- any count g that is not the run's on some input, and so the budget for the count
-pub invented-count-out : (g : ℕ → List ℕ → State → List ℕ → List ℕ → ℕ) (b : ℕ) (t : List ℕ) (s : State) (m k : List ℕ)
+pub invented-count-out : (g : ℕ → List ℕ → State → List ℕ → List ℕ → ℕ) (b : ℕ) (t : List ℕ) (s : State) (m : List ℕ) (k : Marks)
     → (g b t s m k ≡ runOf b t s m k .ended .steps → ⊥) → IsRun (inventedCount g) → ⊥
 unfolding IsRun inventedCount
 invented-count-out g b t s m k apart is = apart (ap (λ (f : Final). f .ended .steps) (is b t s m k))

@@ -4,6 +4,7 @@ use Prim.Native.Nat.{ℕ, min}
 use mathlib.Core.Bool.{true, cond}
 use mathlib.Core.List.{List, map}
 use lib.Dec.{ltb, eqb}
+use Rattle.marks.specs.Memory.{Marks}
 use Rattle.instruction.specs.Reply.{numberOf}
 use Rattle.instruction.specs.declared.Reply.{Reply}
 use Rattle.machine.specs.Run.{Final, final, runOf}
@@ -11,7 +12,7 @@ use Rattle.machine.specs.declared.State.{State}
 
 -- what runOf is: from budget, tape, state, memory and marks to the answer, memory and marks
 abbrev pub Model : Type 0
-Model = ℕ → List ℕ → State → List ℕ → List ℕ → Final
+Model = ℕ → List ℕ → State → List ℕ → Marks → Final
 
 -- ---- an end with one part of it replaced
 
