@@ -23,7 +23,7 @@ not-ten marked-operand = refl
 
 -- the step that stops, and the step that goes on
 resume-on : (b : ℕ) (t : List ℕ) (more rest : State → List ℕ → Marks → Final) (i : ℕ) (s : State) (m : List ℕ) (k : Marks) (x : Stepped) → StepStops x
-    → ((u : State) (l j : List ℕ) → more u l j ≡ resume b t (rest u l j)) → goOn more i s m k x ≡ resume b t (goOn rest i s m k x)
+    → ((u : State) (l : List ℕ) (j : Marks) → more u l j ≡ resume b t (rest u l j)) → goOn more i s m k x ≡ resume b t (goOn rest i s m k x)
 unfolding goOn resume
 resume-on b t more rest i s m k (stopped r) p h = rw (not-ten p)
 resume-on b t more rest i s m k (completed d l j x) p h = h (after d s) l j

@@ -16,7 +16,7 @@ After P s (completed d m k x) = P (after d s)
 
 module _ (P : State → Type 0) (step : (t : ℕ) (s : State) (m : List ℕ) (k : Marks) → P s → After P s (stepOf t s m k)) where
   goes-on : (rest : State → List ℕ → Marks → Final) (n : ℕ) (s : State) (m : List ℕ) (k : Marks) (x : Stepped) → P s → After P s x
-      → ((u : State) (l j : List ℕ) → P u → P (rest u l j .ended .state)) → P (goOn rest n s m k x .ended .state)
+      → ((u : State) (l : List ℕ) (j : Marks) → P u → P (rest u l j .ended .state)) → P (goOn rest n s m k x .ended .state)
   unfolding goOn
   goes-on rest n s m k (stopped r) p q h = p
   goes-on rest n s m k (completed d l j x) p q h = h (after d s) l j q

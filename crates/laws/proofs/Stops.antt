@@ -9,7 +9,7 @@ use Rattle.word.specs.Bytes.{anyAbove}
 use Rattle.cpu.specs.Control.{pcOf}
 use Rattle.cpu.specs.Exec.{sourcesOf}
 use Rattle.cpu.specs.declared.Control.{Control}
-use Rattle.marks.specs.Memory.{Marks, badMark}
+use Rattle.marks.specs.Memory.{Marks, badRoom, badMark}
 use Rattle.marks.specs.declared.Flags.{Flags}
 use Rattle.instruction.specs.Reply.{numberOf}
 use Rattle.instruction.specs.Fetch.{fetchOf}
@@ -64,7 +64,7 @@ step-stops t s m k = event-stops (chosen t (s .control)) s m k
 -- ---- a run
 
 go-replies : (rest : State → List ℕ → Marks → Final) (n : ℕ) (s : State) (m : List ℕ) (k : Marks) (x : Stepped) → StepStops x
-    → ((u : State) (l j : List ℕ) → Replies (numberOf (rest u l j .ended .reply))) → Replies (numberOf (goOn rest n s m k x .ended .reply))
+    → ((u : State) (l : List ℕ) (j : Marks) → Replies (numberOf (rest u l j .ended .reply))) → Replies (numberOf (goOn rest n s m k x .ended .reply))
 unfolding goOn
 go-replies rest n s m k (stopped r) p h = stops p
 go-replies rest n s m k (completed d l j x) p h = h (after d s) l j
@@ -87,8 +87,8 @@ judge-replies : (b : ℕ) (t : List ℕ) (s : State) (m : List ℕ) (k : Marks) 
 unfolding judge
 judge-replies b t s m k =
     either (badLength (length m)) _ _ (refused (lit≤ tt) (lit≤ tt))
-    (either (not (eqb (length k) (length m))) _ _ (refused (lit≤ tt) (lit≤ tt))
-    (either (badMark k) _ _ (refused (lit≤ tt) (lit≤ tt))
+    (either (badRoom (length m) k) _ _ (refused (lit≤ tt) (lit≤ tt))
+    (either (badMark (length m) k) _ _ (refused (lit≤ tt) (lit≤ tt))
     (either (outOfForm (s .control)) _ _ (refused (lit≤ tt) (lit≤ tt))
     (either (ltb (length t) b) _ _ (refused (lit≤ tt) (lit≤ tt))
     (either (anyAbove 63 (take b t)) _ _ (refused (lit≤ tt) (lit≤ tt)) tt)))))

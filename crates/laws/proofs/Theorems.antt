@@ -16,7 +16,7 @@ use Rattle.cpu.specs.declared.Control.{Control}
 use Rattle.cpu.specs.declared.Entry.{Entry}
 use Rattle.isa.specs.declared.Instr.{Instr}
 use Rattle.marks.specs.Marks.{blocked}
-use Rattle.marks.specs.Memory.{Marks}
+use Rattle.marks.specs.Memory.{Marks, bits}
 use Rattle.instruction.specs.Reply.{numberOf}
 use Rattle.instruction.specs.Fetch.{fetchOf}
 use Rattle.instruction.specs.Act.{outside, actOf}
@@ -89,14 +89,14 @@ pub run-stays-in-form : (b : ℕ) (t : List ℕ) (s : State) (m : List ℕ) (k :
     → Form (runOf b t s m k .ended .state .control)
 run-stays-in-form b t s m k e = run-keeps b t s m k (in-form (s .control) e)
 
--- 4. What run ensures determines its result: two answers, memories and marks that satisfy it coincide.
-module _ (b : ℕ) (t : List ℕ) (s : State) (m : List ℕ) (k : Marks) where
+-- 4. What run ensures determines its result: two answers, memories and mark slices that satisfy it coincide.
+module _ (b : ℕ) (t : List ℕ) (s : State) (m k : List ℕ) where
   -- the three equations of run's contract
   abbrev Ensured : Ended → List ℕ → List ℕ → Type 0
-  Ensured e l j = (e ≡ runOf b t s m k .ended) × (l ≡ runOf b t s m k .mem) × (j ≡ runOf b t s m k .marks)
+  Ensured e l j = (e ≡ runOf b t s m (bits k) .ended) × (l ≡ runOf b t s m (bits k) .mem) × (bits j ≡ runOf b t s m (bits k) .marks)
 
   pub run-determined : (e f : Ended) (l n j i : List ℕ) → Ensured e l j → Ensured f n i → (e ≡ f) × (l ≡ n) × (j ≡ i)
-  run-determined e f l n j i p q = (p .0 ∙ sym (q .0), p .1 ∙ sym (q .1), p .2 ∙ sym (q .2))
+  run-determined e f l n j i p q = (p .0 ∙ sym (q .0), p .1 ∙ sym (q .1), let z = p .2 ∙ sym (q .2) in cc)
 
 -- 5. A run of a + b steps is a run of a steps, and then of b from what that left; a run that stopped stays as it is.
 pub a-cut-run : (a b : ℕ) (t : List ℕ) (s : State) (m : List ℕ) (k : Marks) → stepsOf (a + b) 0 t s m k ≡ resume b t (stepsOf a 0 t s m k)
@@ -115,12 +115,12 @@ lines-of-the-steps b i t s m k z h =
     rw e at (nth-line b i 0 t s m k z h)
 
 -- 7. The line of a completed step shows the program counter before it, the entry that was made, and the address where memory may have changed.
-pub a-line-is-true : (t : ℕ) (s : State) (m : List ℕ) (k : Marks) (d : Done) (l j : List ℕ) (x : Line) → stepOf t s m k ≡ completed d l j x
+pub a-line-is-true : (t : ℕ) (s : State) (m : List ℕ) (k : Marks) (d : Done) (l : List ℕ) (j : Marks) (x : Line) → stepOf t s m k ≡ completed d l j x
     → (x .pc ≡ pcOf (s .control)) × Shows t s m k d x × ChangedAt (x .address) m l
 a-line-is-true t s m k d l j x e = subst (Told t s m k) e (told t s m k)
 
 -- .. and its cost raises the cycle count, modulo 2^32; nothing else changes that.
-pub a-step-counts : (t : ℕ) (s : State) (m : List ℕ) (k : Marks) (d : Done) (l j : List ℕ) (x : Line) (e : stepOf t s m k ≡ completed d l j x)
+pub a-step-counts : (t : ℕ) (s : State) (m : List ℕ) (k : Marks) (d : Done) (l : List ℕ) (j : Marks) (x : Line) (e : stepOf t s m k ≡ completed d l j x)
     → d .control .cycles ≡ (s .control .cycles + costIn (a-line-is-true t s m k d l j x e .1)) % 2 ^ 32
 a-step-counts t s m k d l j x e = counts (a-line-is-true t s m k d l j x e .1)
 

@@ -241,7 +241,7 @@ return-bits c =
 
 -- what the steps counted, by the step that comes first
 counts-on : (rest : State → List ℕ → Marks → Final) (lines : State → List ℕ → Marks → List Shown) (n : ℕ) (s : State) (m : List ℕ) (k : Marks) (x : Stepped)
-    → ((u : State) (l j : List ℕ) → rest u l j .ended .steps ≡ n + 1 + length (lines u l j))
+    → ((u : State) (l : List ℕ) (j : Marks) → rest u l j .ended .steps ≡ n + 1 + length (lines u l j))
     → goOn rest n s m k x .ended .steps ≡ n + length (traceOn lines s x)
 unfolding goOn traceOn
 counts-on rest lines n s m k (stopped r) h = omega arith
@@ -269,7 +269,7 @@ module _ (lines : State → List ℕ → Marks → List Shown) (s : State) (z : 
   first-line (completed d l j y) h = refl
 
   later-line : (rest : State → List ℕ → Marks → Final) (tape i n : ℕ) (m : List ℕ) (k : Marks) (x : Stepped) → suc i < length (traceOn lines s x)
-      → ((u : State) (l j : List ℕ) → i < length (lines u l j)
+      → ((u : State) (l : List ℕ) (j : Marks) → i < length (lines u l j)
       → seenIn (stepOf tape (rest u l j .ended .state) (rest u l j .mem) (rest u l j .marks)) ≡ Seen.Step (getD (lines u l j) i z .line))
       → seenIn (stepOf tape (goOn rest n s m k x .ended .state) (goOn rest n s m k x .mem) (goOn rest n s m k x .marks))
       ≡ Seen.Step (getD (traceOn lines s x) (suc i) z .line)

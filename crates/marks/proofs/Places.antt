@@ -45,7 +45,7 @@ bit-off p s e = ap (put p s 1) (sym zero-there) ∙ written-back p s 1
     zero-there : fieldOf p s 1 ≡ 0
     zero-there = let l : fieldOf p s 1 < 2 = mod-lt (p / 2 ^ s) (omega arith) in let q = eqb-false (fieldOf p s 1) 1 e in omega (arith, q)
 
-no-bit : (s : ℕ) → on 0 s ≡ false
+pub no-bit : (s : ℕ) → on 0 s ≡ false
 no-bit s = ap (λ (n : ℕ). eqb (n % 2) 1) (zero-div (2 ^ s))
 
 -- ---- one position

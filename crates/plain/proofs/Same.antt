@@ -6,7 +6,6 @@ use mathlib.Core.Bool.{Bool, true, false, cond, _&&_}
 use mathlib.Core.List.{List}
 use native.Mathlib.Omega.{arith}
 use lib.ListN.{length, getD, set, replicate}
-use borrow.Author.Tests.{eq-eqb}
 use Rattle.word.specs.Bits.{on}
 use Rattle.word.specs.declared.ByteAddr.{ByteAddr}
 use Rattle.word.specs.declared.Width.{Width}
@@ -20,7 +19,7 @@ use Rattle.cpu.specs.declared.Control.{Control}
 use Rattle.cpu.specs.declared.Effect.{Effect}
 use Rattle.cpu.specs.declared.Entry.{Entry}
 use Rattle.marks.specs.Marks.{with}
-use Rattle.marks.specs.Memory.{Marks}
+use Rattle.marks.specs.Memory.{Marks, markAt, badRoom}
 use Rattle.marks.specs.declared.Flags.{Flags}
 use Rattle.instruction.specs.Fetch.{guarded, found, fetchOf}
 use Rattle.instruction.specs.Act.{Val, reachOf, outside, loadedFrom, actOf}
@@ -40,7 +39,7 @@ use Rattle.machine.specs.declared.Judged.{Judged}
 use Rattle.machine.specs.declared.Line.{Line}
 use Rattle.plain.specs.Plain.{Core, reached, decoded, fetch, Outcome, stopped, completed, changed, enters, halts, act, perform, onFetched, onEvent, step, Result, refusal, stepsFrom, unlessRefused, run, goOn as goOnPlain}
 use Rattle.plain.specs.Clean.{Clean, coreOf, beside}
-use Rattle.plain.proofs.Marks.{none, reg-off, reg-kept, above-off, anyOf-off, loaded-off, marked-kept, taint-off, blocked-off}
+use Rattle.plain.proofs.Marks.{none, reg-off, reg-kept, none-bad, marked-off, loaded-off, marked-kept, taint-off, blocked-off}
 
 -- a state of the machine without marks, as one with marks of which none is set
 abbrev unmarked : Core → State
@@ -62,9 +61,9 @@ and-true : (b : Bool) → (b && true) ≡ b
 and-true true = refl
 and-true false = refl
 
-module _ (k : Marks) (z : (i : ℕ) → getD k i 0 ≡ 0) where
+module _ (k : Marks) (z : (i : ℕ) → markAt k i ≡ false) where
   guarded-same : (a : ByteAddr) (m : List ℕ) (x : Fetched) → guarded a m k x ≡ reached a m x
-  guarded-same a m x = rw (anyOf-off k z Width.Half a)
+  guarded-same a m x = rw (marked-off k z Width.Half a)
 
   found-same : (d : Decoded) (b : ByteAddr) (m : List ℕ) → found d b m k ≡ decoded d b m
   found-same (Decoded.Short i) b m = refl
@@ -73,7 +72,7 @@ module _ (k : Marks) (z : (i : ℕ) → getD k i 0 ≡ 0) where
 
   fetch-same : (a : ByteAddr) (m : List ℕ) → fetchOf a m k ≡ fetch a m
   unfolding fetchOf fetch
-  fetch-same a m = rw (anyOf-off k z Width.Half a, found-same (decodedAt m a) _ m)
+  fetch-same a m = rw (marked-off k z Width.Half a, found-same (decodedAt m a) _ m)
 
   -- an entry on a control part that has the same TE
   enters-same : (e : Entry) (c : Control) (s : Core) (m : List ℕ) (x : Line) → on (c .psw) 4 ≡ on (s .control .psw) 4
@@ -137,16 +136,16 @@ module _ (k : Marks) (z : (i : ℕ) → getD k i 0 ≡ 0) where
   steps-same (suc b) n t s m =
       goes-on n s m (stepsOf b (n + 1) t) (stepsFrom b (n + 1) t) (λ u l. steps-same b (n + 1) t u l) _ _ (step-same (getD t n 0) s m)
 
-  judge-same : (b : ℕ) (t : List ℕ) (s : Core) (m : List ℕ) → length k ≡ length m → judge b t (unmarked s) m k ≡ refusal b t s m
+  judge-same : (b : ℕ) (t : List ℕ) (s : Core) (m : List ℕ) → badRoom (length m) k ≡ false → judge b t (unmarked s) m k ≡ refusal b t s m
   unfolding judge refusal
-  judge-same b t s m e = rw (eq-eqb (length k) (length m) e, above-off k z)
+  judge-same b t s m e = rw (e, none-bad (length m) k z)
 
   judged-same : (j : Judged) (b : ℕ) (t : List ℕ) (s : Core) (m : List ℕ)
       → judged j b t (unmarked s) m k ≡ beside (unlessRefused j b t s m) (unmarked s) k
   judged-same (Judged.Refused r) b t s m = refl
   judged-same Judged.Good b t s m = steps-same b 0 t s m
 
-  unmarked-same : (b : ℕ) (t : List ℕ) (s : Core) (m : List ℕ) → length k ≡ length m
+  unmarked-same : (b : ℕ) (t : List ℕ) (s : Core) (m : List ℕ) → badRoom (length m) k ≡ false
       → runOf b t (unmarked s) m k ≡ beside (run b t s m) (unmarked s) k
   unfolding runOf run
   unmarked-same b t s m e = rw (judge-same b t s m e) (judged-same (refusal b t s m) b t s m)
@@ -160,4 +159,4 @@ is-unmarked s m k c =
 pub run-same : (b : ℕ) (t : List ℕ) (s : State) (m : List ℕ) (k : Marks) → Clean s m k → runOf b t s m k ≡ beside (run b t (coreOf s) m) s k
 run-same b t s m k c =
     subst (λ (u : State). runOf b t u m k ≡ beside (run b t (coreOf s) m) u k) (sym (is-unmarked s m k c))
-    (unmarked-same k (c .bytes) b t (coreOf s) m (c .size))
+    (unmarked-same k (c .memory) b t (coreOf s) m (c .room))

@@ -1,13 +1,16 @@
 -- The theorems of this crate, each with its statement; read this file alone with specs/. The proofs are in the files that it cites.
 -- Assumes nothing.
-use Prim.Native.Nat.{ℕ}
+use Prim.Native.Nat.{ℕ, _+_, _/_, _%_}
 use mathlib.Core.Path.{_≡_, refl, sym, ap, _∙_}
 use mathlib.Core.Logic.{_≢_}
-use mathlib.Core.Bool.{false≢true, _||_}
+use mathlib.Core.Bool.{false≢true, not, _||_}
 use mathlib.Core.List.{List}
 use lib.ListN.{length, replicate, length-replicate}
 use lib.Dec.{eqb}
-use Rattle.marks.specs.Memory.{Marks}
+use borrow.Author.Tests.{eq-eqb}
+use Rattle.word.specs.Bits.{on}
+use Rattle.marks.specs.Memory.{Marks, bits}
+use Rattle.marks.proofs.Places.{no-bit}
 use Rattle.instruction.specs.Reply.{numberOf}
 use Rattle.machine.specs.State.{freshState}
 use Rattle.machine.specs.Run.{runOf}
@@ -29,7 +32,13 @@ never-12 b t s m k c e = false≢true (sym (clean-fine b t s m k c) ∙ ap (λ (
 pub never-14 : (b : ℕ) (t : List ℕ) (s : State) (m : List ℕ) (k : Marks) → Clean s m k → numberOf (runOf b t s m k .ended .reply) ≢ 14
 never-14 b t s m k c e = false≢true (sym (clean-fine b t s m k c) ∙ ap (λ (n : ℕ). eqb n 12 || eqb n 14) e)
 
--- 3. Something is clean: the fresh state, beside any memory and as many zeros (Marks.antt).
-pub fresh-is-clean : (m : List ℕ) → Clean freshState m (replicate (length m) 0)
+-- 3. Something is clean: the fresh state, beside any memory and as many zeros as its marks take (Marks.antt).
+pub fresh-is-clean : (m : List ℕ) → Clean freshState m (bits (replicate ((length m + 7) / 8) 0))
 fresh-is-clean m =
-    record { bytes = λ i. all-same (length m) i 0; size = length-replicate (length m) 0; regs = refl; tf = refl; cy = refl }
+    record {
+      memory = λ i. ap (λ (p : ℕ). on p (i % 8)) (all-same ((length m + 7) / 8) (i / 8) 0) ∙ no-bit (i % 8);
+      room = ap not (eq-eqb _ _ (length-replicate ((length m + 7) / 8) 0));
+      regs = refl;
+      tf = refl;
+      cy = refl;
+    }

@@ -71,11 +71,14 @@ byte-same (suc w) m n a i v l h g =
     last : (k : List ℕ) → a + suc w ≤ length k → getD (store w (set k (a + w) (v % 256)) a (v / 256)) (a + w) 0 ≡ v % 256
     last k f = store-kept w (set k (a + w) (v % 256)) a (v / 256) (a + w) (λ j q e. omega arith) ∙ getD-set-same k (a + w) (v % 256) 0 (omega arith)
 
-    abbrev Here : ℕ → Type 0
-    Here j = getD (store w (set m (a + w) (v % 256)) a (v / 256)) (a + j) 0 ≡ getD (store w (set n (a + w) (v % 256)) a (v / 256)) (a + j) 0
-
-    go : Dec (i ≡ w) → (i < w → Here i) → Here i
-    go (yes e) f = subst (λ (j : ℕ). Here j) (sym e) (last m h ∙ sym (last n g))
+    go : Dec (i ≡ w)
+        → (i < w → getD (store w (set m (a + w) (v % 256)) a (v / 256)) (a + i) 0 ≡ getD (store w (set n (a + w) (v % 256)) a (v / 256)) (a + i) 0)
+        → getD (store w (set m (a + w) (v % 256)) a (v / 256)) (a + i) 0 ≡ getD (store w (set n (a + w) (v % 256)) a (v / 256)) (a + i) 0
+    go (yes e) f =
+        subst
+        (λ (j : ℕ). getD (store w (set m (a + w) (v % 256)) a (v / 256)) (a + j) 0 ≡ getD (store w (set n (a + w) (v % 256)) a (v / 256)) (a + j) 0)
+        (sym e)
+        (last m h ∙ sym (last n g))
     go (no ne) f = f (omega (arith, ne))
 
 -- writing, inside memory
