@@ -230,7 +230,7 @@ fn no_line_of_the_coverage_is_zero() {
         assert!(*count > 0, "no {kind} {name}");
     }
     let of = |kind| coverage.lines.iter().filter(|line| line.0 == kind).count();
-    assert_eq!((of("step"), of("reply"), of("entry")), (59, 10, 7));
+    assert_eq!((of("step"), of("reply"), of("entry"), of("marks")), (59, 10, 7, 11));
 }
 
 #[test]
