@@ -54,6 +54,12 @@ enum Unfetched {
     Stops(Reply),
 }
 
+/// Stop 12. Mostly it doesn't come, and the compiler is told so.
+#[cold]
+fn fetch_marked() -> Unfetched {
+    Unfetched::Stops(Reply::FetchMarked)
+}
+
 /// The instruction at `pc`. "A program counter found odd inside a run answers 13, before all
 /// these."
 #[inline]
@@ -356,7 +362,7 @@ impl Memory<'_> {
     fn half(&self, address: u32) -> Result<u16, Unfetched> {
         let half = word::load(self.bytes, address, Width::Half).ok_or(Unfetched::Outside)?;
         if marks::any_marked(self.marks, address, Width::Half) {
-            return Err(Unfetched::Stops(Reply::FetchMarked));
+            return Err(fetch_marked());
         }
         Ok(half as u16)
     }
