@@ -248,7 +248,7 @@ fn calls(length: usize) -> Duration {
     (0..9).map(|_| round()).min().expect("nine rounds")
 }
 
-/// A scan of the marks would take some hundred times as long in the longer memory: the margin is
+/// A scan of the mark slice would take sixteen times as long in the longer memory: the margin is
 /// for a busy machine.
 #[test]
 fn a_call_costs_the_same_in_a_long_memory() {
