@@ -38,7 +38,7 @@ use Rattle.wrong.specs.Models.{Model}
 pub record Rules : Type 0 where
   pub blocked : Instr → Bool → Flags → Bool
   pub taint : Instr → Bool → Bool → Bool → Bool → Flags → Taint
-  pub stored : Width → List ℕ → ByteAddr → Bool → List ℕ
+  pub stored : Width → Marks → ByteAddr → Bool → Marks
 
 abbrev pub trueRules : Rules
 trueRules = record { blocked = blocked; taint = taint; stored = markAll }
