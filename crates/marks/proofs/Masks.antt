@@ -1,12 +1,12 @@
 -- One bit of a byte by shift and mask: read, set and cleared.
 -- Assumes nothing.
-use Prim.Native.Nat.{ℕ, zero, suc, _+_, _*_, _-_, _/_, _%_, _^_, _<_, _≤_, max}
+use Prim.Native.Nat.{ℕ, zero, suc, _+_, _*_, _-_, _/_, _%_, _^_, _<_, max}
 use mathlib.Core.Path.{_≡_, refl, sym, ap, ap₂, subst, _∙_}
 use mathlib.Core.Bool.{Bool, true, false}
 use native.Mathlib.Nat.{mod-lt, mod-mod, mod-eq-of-lt, add-mul}
 use native.Mathlib.Omega.{arith}
-use lib.Bits.{bitAnd, bitOr, or-step, or-zero-r, and-mask, and-block, or-block, and-high}
-use lib.Pow.{pow-pos, pow-lt, pow-add, shr-shr, shr-lt, split, ones-lt, ones-split}
+use lib.Bits.{bitAnd, bitOr, or-step, or-zero-r, or-lt, and-mask, and-block, or-block, and-high}
+use lib.Pow.{pow-pos, pow-lt, pow-add, shr-shr, shr-lt, split, ones-lt}
 use Rattle.word.specs.Bits.{num, put}
 
 -- the lowest bit set
@@ -60,16 +60,22 @@ and-clears c p s h =
 
 -- as the code of a byte has them
 
-shifted : (s : ℕ) → s < 8 → 1 * 2 ^ s % 256 ≡ 2 ^ s
-shifted s h = ap (λ (n : ℕ). n % 256) (one-times (2 ^ s)) ∙ mod-eq-of-lt (pow-lt {i = s} {j = 8} h)
+pub shifted : (s : ℕ) → s < 8 → 1 * 2 ^ s % 2 ^ 32 ≡ 2 ^ s
+shifted s h = ap (λ (n : ℕ). n % 2 ^ 32) (one-times (2 ^ s)) ∙ mod-eq-of-lt (pow-lt {i = s} {j = 32} (omega arith))
   where
     one-times : (n : ℕ) → 1 * n ≡ n
     one-times n = omega arith
 
-pub byte-set : (p s : ℕ) (m : Bool) → s < 8 → m ≡ true → bitOr p (1 * 2 ^ s % 256) ≡ put p s 1 (num m)
+pub shifted-small : (s : ℕ) → s < 8 → 1 * 2 ^ s % 2 ^ 32 < 256
+shifted-small s h = subst (λ (n : ℕ). n < 256) (sym (shifted s h)) (pow-lt {i = s} {j = 8} h)
+
+pub set-small : (p s : ℕ) → s < 8 → p < 256 → bitOr p (1 * 2 ^ s % 2 ^ 32) < 256
+set-small p s h l = or-lt 8 p _ l (shifted-small s h)
+
+pub byte-set : (p s : ℕ) (m : Bool) → s < 8 → m ≡ true → bitOr p (1 * 2 ^ s % 2 ^ 32) ≡ put p s 1 (num m)
 byte-set p s m h e = ap (bitOr p) (shifted s h) ∙ or-sets p s ∙ ap (λ (b : Bool). put p s 1 (num b)) (sym e)
 
-pub byte-cleared : (p s : ℕ) (m : Bool) → s < 8 → p < 256 → m ≡ false → bitAnd p (255 - 1 * 2 ^ s % 256) ≡ put p s 1 (num m)
+pub byte-cleared : (p s : ℕ) (m : Bool) → s < 8 → p < 256 → m ≡ false → bitAnd p (255 - 1 * 2 ^ s % 2 ^ 32) ≡ put p s 1 (num m)
 byte-cleared p s m h l e =
     let q : 7 - s + 1 + s ≡ 8 = omega arith in
     ap (λ (n : ℕ). bitAnd p (255 - n)) (shifted s h)

@@ -1,12 +1,12 @@
 -- Laws of memory's marks over the position, once for both layouts: what is put is read back, and the other positions are kept.
 -- Assumes nothing.
-use Prim.Native.Nat.{ℕ, zero, suc, _+_, _*_, _-_, _/_, _%_, _^_, _<_, _≤_}
+use Prim.Native.Nat.{ℕ, zero, suc, _+_, _/_, _%_, _^_, _<_, _≤_}
 use mathlib.Core.Path.{_≡_, refl, sym, ap, ap₂, subst, _∙_}
 use mathlib.Core.Logic.{_≢_}
-use mathlib.Core.Bool.{Bool, true, false, cond, not, _&&_, _||_}
+use mathlib.Core.Bool.{Bool, true, false, _&&_, _||_}
 use mathlib.Core.List.{List}
 use native.Mathlib.Decide.{ℕ-discrete}
-use native.Mathlib.Nat.{mod-lt, zero-div, zero-mod}
+use native.Mathlib.Nat.{mod-lt, zero-div}
 use native.Mathlib.Numerals.{add-one}
 use native.Mathlib.Omega.{arith}
 use lib.Dec.{ltb, eqb, leb}
@@ -170,11 +170,14 @@ and-right false b e = let z : _≡_ {A = ℕ} 0 1 = cc in absurd (omega arith)
 pub clear-none : (n : ℕ) (k : List ℕ) (i : ℕ) → isClear n k i ≡ true → anyMark n (bits k) i ≡ false
 clear-none n k i e = any-none n (bits k) i each
   where
+    there : Bool
+    there = ltb (i / 8) (length k)
+
     fits : i % 8 + n ≤ 8
-    fits = leb-true _ _ (and-left (leb (i % 8 + n) 8) (eqb (getD k (i / 8) 0) 0) e)
+    fits = leb-true _ _ (and-left (leb (i % 8 + n) 8) (there && eqb (getD k (i / 8) 0) 0) e)
 
     empty : getD k (i / 8) 0 ≡ 0
-    empty = eqb-true _ _ (and-right (leb (i % 8 + n) 8) (eqb (getD k (i / 8) 0) 0) e)
+    empty = eqb-true _ _ (and-right there (eqb (getD k (i / 8) 0) 0) (and-right (leb (i % 8 + n) 8) (there && eqb (getD k (i / 8) 0) 0) e))
 
     each : (j : ℕ) → j < n → markAt (bits k) (i + j) ≡ false
     each j l =

@@ -20,11 +20,11 @@ fn with_bit(b: u8, s: u32, m: bool) -> u8
     requires { ⌜ s < 8 ⌝ }
     ensures { λ r. ⌜ r ≡ put b s 1 (num m) ⌝ }
 {
-    let one = 1u8 << s;
+    let one = 1u32 << s;
     if m {
-        return b | one;
+        return (b as u32 | one) as u8;
     }
-    b & (255 - one)
+    (b as u32 & (255 - one)) as u8
 }
 
 // ---- one mark
@@ -51,18 +51,17 @@ fn put_mark_at(k: &mut [u8], i: usize, m: bool)
 // ---- the n marks from a position on
 
 // One byte of the slice holds all of them, and it is 0: most often so, and then there is nothing more to look at.
-fn is_clear(k: &[u8], at: usize, n: usize) -> bool
+fn is_clear(k: &[u8], at: u32, n: u32) -> bool
     requires { ⌜ n ≤ 8 ⌝ }
     ensures { λ r. ⌜ r ≡ isClear n (now (k .entry)) at ⌝ }
 {
-    if 8 < at % 8 + n {
-        return false;
+    if at % 8 + n <= 8 {
+        let j = (at / 8) as usize;
+        if j < k.len() {
+            return k[j] == 0;
+        }
     }
-    let j = at / 8;
-    if j < k.len() {
-        return k[j] == 0;
-    }
-    true
+    false
 }
 
 fn any_one_by_one(k: &[u8], at: usize, n: usize) -> bool
@@ -89,33 +88,38 @@ fn put_one_by_one(k: &mut [u8], at: usize, n: usize, m: bool)
     }
 }
 
-fn any_marked(k: &[u8], at: usize, n: usize) -> bool
-    requires { ⌜ (n ≤ 8) × (at + n ≤ 18446744073709551616) ⌝ }
+fn any_marked(k: &[u8], at: u32, n: u32) -> bool
+    requires { ⌜ n ≤ 8 ⌝ }
     ensures { λ r. ⌜ r ≡ anyMark n (bits (now (k .entry))) at ⌝ }
 {
     if is_clear(k, at, n) {
         return false;
     }
-    any_one_by_one(k, at, n)
+    any_one_by_one(k, at as usize, n as usize)
+}
+
+fn put_marks(k: &mut [u8], at: u32, n: u32, m: bool)
+    requires { ⌜ n ≤ 8 ⌝ }
+    ensures { λ _. ⌜ bits (now (k .exit)) ≡ putMarks n (bits (now (k .entry))) at m ⌝ }
+{
+    if !m {
+        if is_clear(k, at, n) {
+            return;
+        }
+    }
+    put_one_by_one(k, at as usize, n as usize, m)
 }
 
 pub fn is_marked(w: Width, k: &[u8], at: ByteAddr) -> bool
     ensures { λ r. ⌜ r ≡ markedAt w (bits (now (k .entry))) at ⌝ }
 {
-    any_marked(k, at.0 as usize, word::bytes(w) as usize)
+    any_marked(k, at.0, word::bytes(w))
 }
 
 pub fn set_marks(w: Width, k: &mut [u8], at: ByteAddr, m: bool)
     ensures { λ _. ⌜ bits (now (k .exit)) ≡ markAll w (bits (now (k .entry))) at m ⌝ }
 {
-    let a = at.0 as usize;
-    let n = word::bytes(w) as usize;
-    if !m {
-        if is_clear(k, a, n) {
-            return;
-        }
-    }
-    put_one_by_one(k, a, n, m);
+    put_marks(k, at.0, word::bytes(w), m)
 }
 
 // ---- refusals 2 and 3, where n is memory's length
@@ -134,5 +138,5 @@ pub fn is_bad_room(n: usize, k: &[u8]) -> bool
 pub fn has_bad_mark(n: usize, k: &[u8]) -> bool
     ensures { λ r. ⌜ r ≡ badMark n (bits (now (k .entry))) ⌝ }
 {
-    any_marked(k, n, 8 - n % 8)
+    any_one_by_one(k, n, 8 - n % 8)
 }

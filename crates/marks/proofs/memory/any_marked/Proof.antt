@@ -3,10 +3,6 @@ use Rattle.marks.proofs.Places.{clear-none}
 use borrow.Author.Needs.{needs}
 use Rattle.marks.proofs.memory.any_marked.Statement.{statement}
 use Rattle.marks.proofs.memory.any_marked.Tie as tie
-use Rattle.marks.proofs.memory.any_marked.Reads as reads
-use Rattle.marks.proofs.memory.any_marked.Lts as lts
-use Rattle.marks.proofs.memory.any_one_by_one.Reads as any-one-by-one-reads
-use Rattle.marks.proofs.memory.is_clear.Reads as is-clear-reads
 
 is-clear-requires : tie.Need-is-clear-requires
 is-clear-requires c κs = search needs

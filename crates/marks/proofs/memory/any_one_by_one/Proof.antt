@@ -6,10 +6,6 @@ use Rattle.marks.specs.Memory.{bits, anyMark}
 use Rattle.marks.proofs.Places.{any-more, any-zero}
 use Rattle.marks.proofs.memory.any_one_by_one.Statement.{statement}
 use Rattle.marks.proofs.memory.any_one_by_one.Tie as tie
-use Rattle.marks.proofs.memory.any_one_by_one.Reads as reads
-use Rattle.marks.proofs.memory.any_one_by_one.Lts as lts
-use Rattle.marks.proofs.memory.is_marked_at.Reads as is-marked-at-reads
-use Rattle.word.proofs.either.Reads as either-reads
 
 abbrev Inv-loop : tie.InvT-loop
 Inv-loop k at n found₀ i₀ found i = (i ≤ n) × (found ≡ anyMark i (bits k) at)

@@ -4,8 +4,6 @@ use mathlib.Core.Path.{_≡_}
 use borrow.Author.Needs.{needs}
 use Rattle.marks.proofs.memory.is_bad_room.Statement.{statement}
 use Rattle.marks.proofs.memory.is_bad_room.Tie as tie
-use Rattle.marks.proofs.memory.is_bad_room.Reads as reads
-use Rattle.marks.proofs.memory.is_bad_room.Lts as lts
 
 returns : tie.Need-returns
 returns c =

@@ -4,9 +4,6 @@ use Rattle.marks.proofs.Places.{off-past}
 use borrow.Author.Needs.{needs}
 use Rattle.marks.proofs.memory.is_marked_at.Statement.{statement}
 use Rattle.marks.proofs.memory.is_marked_at.Tie as tie
-use Rattle.marks.proofs.memory.is_marked_at.Reads as reads
-use Rattle.marks.proofs.memory.is_marked_at.Lts as lts
-use Rattle.marks.proofs.memory.is_set.Reads as is-set-reads
 
 shared-slice-read-is-set : tie.Need-shared-slice-read-is-set
 shared-slice-read-is-set c = search needs

@@ -5,8 +5,6 @@ use lib.Dec.{eqb}
 use borrow.Author.Needs.{needs}
 use Rattle.marks.proofs.memory.is_set.Statement.{statement}
 use Rattle.marks.proofs.memory.is_set.Tie as tie
-use Rattle.marks.proofs.memory.is_set.Reads as reads
-use Rattle.marks.proofs.memory.is_set.Lts as lts
 
 shr-result : tie.Need-shr-result
 shr-result c = search needs

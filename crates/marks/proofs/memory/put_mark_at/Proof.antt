@@ -4,9 +4,6 @@ use Rattle.marks.proofs.Places.{put-past}
 use borrow.Author.Needs.{needs}
 use Rattle.marks.proofs.memory.put_mark_at.Statement.{statement}
 use Rattle.marks.proofs.memory.put_mark_at.Tie as tie
-use Rattle.marks.proofs.memory.put_mark_at.Reads as reads
-use Rattle.marks.proofs.memory.put_mark_at.Lts as lts
-use Rattle.marks.proofs.memory.with_bit.Reads as with-bit-reads
 
 slice-read-with-bit : tie.Need-slice-read-with-bit
 slice-read-with-bit c = search needs

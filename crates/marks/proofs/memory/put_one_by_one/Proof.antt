@@ -7,9 +7,6 @@ use Rattle.marks.specs.Memory.{bits, putMarks}
 use Rattle.marks.proofs.Places.{puts-more, puts-zero}
 use Rattle.marks.proofs.memory.put_one_by_one.Statement.{statement}
 use Rattle.marks.proofs.memory.put_one_by_one.Tie as tie
-use Rattle.marks.proofs.memory.put_one_by_one.Reads as reads
-use Rattle.marks.proofs.memory.put_one_by_one.Lts as lts
-use Rattle.marks.proofs.memory.put_mark_at.Reads as put-mark-at-reads
 
 abbrev Inv-loop : tie.InvT-loop
 Inv-loop k₀ at n m i₀ k i = (i ≤ n) × (length k ≡ length k₀) × (bits k ≡ putMarks i (bits k₀) at m)
