@@ -138,5 +138,9 @@ pub fn is_bad_room(n: usize, k: &[u8]) -> bool
 pub fn has_bad_mark(n: usize, k: &[u8]) -> bool
     ensures { λ r. ⌜ r ≡ badMark n (bits (now (k .entry))) ⌝ }
 {
-    any_one_by_one(k, n, 8 - n % 8)
+    let j = n / 8;
+    if j < k.len() {
+        return 0 < k[j] >> ((n % 8) as u32);
+    }
+    false
 }
