@@ -1,3 +1,7 @@
+use Prim.Native.Nat.{_/_, _<_}
+use native.Mathlib.Omega.{arith}
+use denote.Ref.{now}
+use lib.ListN.{getD}
 use mathlib.Core.Path.{sym}
 use Rattle.marks.proofs.Places.{past-none, end-field}
 use borrow.Author.Needs.{needs}
@@ -17,7 +21,10 @@ shr-result : tie.Need-shr-result
 shr-result c = search needs
 
 returns : tie.Need-returns
-returns c = sym (end-field _ _ (c .shared-slice-known .given _))
+returns c =
+    let a = c .before .before .args in
+    let l : getD (now (a .k)) (a .n / 8) 0 < 256 = omega (arith, c .shared-slice-known .given (a .n / 8)) in
+    sym (end-field (a .n) (now (a .k)) l)
 
 returns-2 : tie.Need-returns-2
 returns-2 c = sym (past-none _ _ _ (c .if1 .left))
