@@ -22,7 +22,7 @@ extern "C" {
 #endif
 
 /*
- * The state is a record of 160 bytes. A word is 4 bytes, the highest first. A mark or a flag is one byte, 0 or 1.
+ * The state is a record of 160 bytes. A word is 4 bytes, the highest first. A mark or a flag of the record is one byte, 0 or 1.
  * The fresh state is all zero, but for HWDBG (SFR 6), which is 3.
  */
 #define MANIK_STATE_SIZE 160
@@ -39,12 +39,21 @@ extern "C" {
 #define MANIK_AT_CYCLES 132  /* the cycle count, modulo 2^32, a word */
                              /* 136 to 159: zero */
 
+/*
+ * The marks of memory are bits: one for each byte of memory, lowest address in the lowest bit. mem[a] is marked if bit a % 8 of
+ * marks[a / 8] is 1. So the mark slice has (mem_len + 7) / 8 bytes. Where mem_len is no multiple of 8, the upper four bits of the
+ * last mark byte are past the memory's end, and are 0.
+ *
+ * Hosts written for a library that took a byte for each mark must follow: a mark slice as long as memory gets reply 2.
+ */
+#define MANIK_MARKS_ROOM(mem_len) (((mem_len) + 7) / 8)
+
 /* What manik_run returns: the rules' reply numbers, and 0. */
 enum manik_reply {
     MANIK_NO_RECORD = 0,       /* `state` is no record: see manik_run */
     MANIK_MEMORY_LENGTH = 1,   /* memory length is 0, above 65,536, or no multiple of 4 */
-    MANIK_MARK_LENGTH = 2,     /* mark slice of another length */
-    MANIK_MARK_BYTE = 3,       /* a mark byte above 1 */
+    MANIK_MARK_LENGTH = 2,     /* mark slice of another length than the memory length divided by 8, rounded up */
+    MANIK_MARK_PAST_END = 3,   /* a set bit past the memory's end */
     MANIK_FORM = 4,            /* state out of form: odd program counter; PSW bit 12 set; HWDBG bits 0, 1 not both set or a bit
                                   of 9 to 31 set; timer pending with TIMER not 0 */
     MANIK_TAPE_LENGTH = 5,     /* tape shorter than the budget */
@@ -60,7 +69,7 @@ enum manik_reply {
  *
  *   state   the record; read, and written back
  *   mem     the memory image; its address 0 is mem[0]
- *   marks   a mark for each byte of memory
+ *   marks   a bit for each byte of memory, MANIK_MARKS_ROOM(mem_len) bytes; read, and written back
  *   tape    the interrupt lines, a byte for each step, bit i for line i
  *   steps   takes the number of completed steps
  *

@@ -1,6 +1,7 @@
 //! The images: programs that run for ever.
 
 use second::corpus::{assemble, Line};
+use second::marks;
 use second::state::{psw, State};
 
 /// What both programs run.
@@ -8,6 +9,7 @@ pub struct Image {
     pub name: &'static str,
     pub state: State,
     pub memory: Vec<u8>,
+    /// A bit for each byte of memory.
     pub marks: Vec<u8>,
     /// The lines, step by step, again and again.
     lines: &'static [u8],
@@ -28,7 +30,7 @@ pub const IMAGES: [fn(usize) -> Image; 6] = [
 
 /// An image with code from address 0 on and some registers set.
 fn image(name: &'static str, size: usize, code: &[Line], registers: &[(usize, u32)]) -> Image {
-    let (memory, marks) = (vec![0; size], vec![0; size]);
+    let (memory, marks) = (vec![0; size], vec![0; marks::room(size)]);
     let mut image = Image { name, state: State::fresh(), memory, marks, lines: &[0] };
     image.place(0, code);
     for &(number, value) in registers {
@@ -110,7 +112,7 @@ fn shift_multiply_conditional(size: usize) -> Image {
 
 /// The recipe of build 32 over its certificate (docs/BUILD31.md), again and again: the jump to
 /// itself at the end leads back to the start.
-fn recipe(size: usize) -> Image {
+pub fn recipe(size: usize) -> Image {
     let mut image = image("the recipe of build 32", size, &[], &[]);
     for line in include_str!("../../examples/build32.txt").lines() {
         let fields: Vec<&str> = line.split('\t').collect();
@@ -119,7 +121,7 @@ fn recipe(size: usize) -> Image {
             ["mark", address, count] => {
                 let (first, count): (usize, usize) =
                     (hex(address), count.parse().expect("decimal"));
-                image.marks[first..first + count].fill(1);
+                marks::mark(&mut image.marks, first..first + count);
             }
             _ => {}
         }

@@ -8,10 +8,21 @@ use crate::images::Image;
 /// The steps of one call; its tape has as many bytes.
 pub const CALL: usize = 1_000_000;
 
+/// The name of what is called for a single step again and again: the recipe of build 32.
+pub const SINGLE: &str = "single-step calls";
+
+/// How many of these are measured together.
+pub const SINGLE_CALLS: usize = 10_000;
+
 /// What a program has made of an image so far.
 pub trait Machine {
     /// Makes so many steps. All complete: an image runs for ever.
     fn run(&mut self, tape: &[u8]);
+
+    /// Makes as many steps, by a call for each.
+    fn run_singly(&mut self, tape: &[u8]) {
+        tape.chunks(1).for_each(|lines| self.run(lines));
+    }
 
     /// State, memory and marks.
     fn contents(&self) -> (Vec<u8>, &[u8], &[u8]);
@@ -69,5 +80,28 @@ impl Machine for Second {
 
     fn contents(&self) -> (Vec<u8>, &[u8], &[u8]) {
         (record::write(&self.state).to_vec(), &self.memory, &self.marks)
+    }
+}
+
+#[cfg(test)]
+mod tests {
+    use super::*;
+    use crate::images::{recipe, SIZES};
+
+    /// A call for each step leaves what one call for all leaves, whatever the size.
+    #[test]
+    fn single_calls_make_the_same_steps() {
+        for image in SIZES.map(recipe) {
+            let tape = image.tape(1_000);
+            let (mut library, mut second) = (Library::new(&image), Second::new(&image));
+            let (mut singly, mut once) = (Library::new(&image), Second::new(&image));
+            library.run(&tape);
+            singly.run_singly(&tape);
+            second.run_singly(&tape);
+            once.run(&tape);
+            assert_eq!(library.contents(), singly.contents());
+            assert_eq!(second.contents(), once.contents());
+            assert_eq!(library.contents(), second.contents());
+        }
     }
 }

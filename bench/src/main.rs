@@ -1,4 +1,5 @@
-//! Steps and lines per second of the static library and of the second program, in one process.
+//! Steps, calls and lines per second of the static library and of the second program, in one
+//! process.
 
 mod images;
 mod listings;
@@ -12,15 +13,15 @@ use std::env;
 use std::fs;
 use std::process::ExitCode;
 
-use images::{IMAGES, SIZES};
+use images::{recipe, IMAGES, SIZES};
 use listings::{listings, Buffer, Lister};
 use machine::{Library, Machine, Second};
 use texts::{Assembler, Source, LENGTHS};
 
-const USAGE: &str =
-    "usage: bench time                              writes the tables of steps and lines per second
+const USAGE: &str = "usage: bench time                              writes the tables of times
        bench images                            writes the number and the name of each image
        bench steps NUMBER SIZE PROGRAM BUDGET  makes one run, PROGRAM is library or second
+       bench calls SIZE PROGRAM TIMES          makes so many calls of a single step each
        bench listings                          writes a line for each listing that is counted:
                                                NUMBER RANGE BUFFER, its lines, and its name
        bench lines NUMBER RANGE BUFFER PROGRAM TIMES    lists so many times
@@ -41,6 +42,7 @@ fn main() -> ExitCode {
         ["time"] => time(),
         ["images"] => name_images(),
         ["steps", number, size, program, budget] => steps(number, size, program, budget),
+        ["calls", size, program, times] => calls(size, program, times),
         ["listings"] => name_listings(),
         ["lines", number, range, buffer, program, times] => {
             lines([number, range, buffer, program, times])
@@ -59,6 +61,8 @@ fn main() -> ExitCode {
 
 fn time() -> Option<()> {
     tables::steps();
+    println!();
+    tables::calls();
     println!();
     tables::listing();
     println!();
@@ -81,6 +85,18 @@ fn steps(number: &str, size: &str, program: &str, budget: &str) -> Option<()> {
     match program {
         "library" => Library::new(&image).run(&tape),
         "second" => Second::new(&image).run(&tape),
+        _ => return None,
+    }
+    Some(())
+}
+
+/// Makes so many calls of a single step; none if the arguments are wrong.
+fn calls(size: &str, program: &str, times: &str) -> Option<()> {
+    let image = recipe(size.parse().ok().filter(|size| SIZES.contains(size))?);
+    let tape = image.tape(times.parse().ok()?);
+    match program {
+        "library" => Library::new(&image).run_singly(&tape),
+        "second" => Second::new(&image).run_singly(&tape),
         _ => return None,
     }
     Some(())

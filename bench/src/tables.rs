@@ -2,9 +2,9 @@
 
 use std::time::Duration;
 
-use crate::images::{Image, IMAGES, SIZES};
+use crate::images::{recipe, Image, IMAGES, SIZES};
 use crate::listings::{listings, Buffer, Lister, Listing, LONGEST};
-use crate::machine::{Library, Machine, Second, CALL};
+use crate::machine::{Library, Machine, Second, CALL, SINGLE, SINGLE_CALLS};
 use crate::texts::{Assembler, Source, LENGTHS, NAME};
 use crate::timing::in_turn;
 
@@ -12,6 +12,16 @@ const STEPS_HEAD: &str = "\
 | Image | Memory | Library, million steps a second | Second program | Ratio \
 | Library over 24 MHz | Second program over 24 MHz |
 |---|---|---|---|---|---|---|
+";
+
+const CALLS_HEAD: &str = "\
+| Calls | Memory | Library, million calls a second | Second program | Ratio |
+|---|---|---|---|---|
+";
+
+const CALL_SIZES_HEAD: &str = "\
+| Calls | Program | 4 KiB, nanoseconds a call | 64 KiB | 64 KiB over 4 KiB |
+|---|---|---|---|---|
 ";
 
 const LINES_HEAD: &str = "\
@@ -66,20 +76,59 @@ pub fn steps() {
     }
 }
 
+/// Both programs have made as many steps of an image, so they hold the same.
+fn same_machine(image: &Image, library: &Library, second: &Second) {
+    assert!(library.contents() == second.contents(), "{}: the programs differ", image.name);
+}
+
 /// The speeds of the library and of the second program.
 fn steps_a_second(image: &Image, tape: &[u8]) -> [f64; 2] {
     let (mut library, mut second) = (Library::new(image), Second::new(image));
-    // Both programs have made as many steps, so they hold the same.
-    let same = |library: &Library, second: &Second| {
-        assert!(library.contents() == second.contents(), "{}: the programs differ", image.name);
-    };
     library.run(tape);
     second.run(tape);
-    same(&library, &second);
+    same_machine(image, &library, &second);
     let times = in_turn(ROUND, [&mut || library.run(tape), &mut || second.run(tape)]);
-    same(&library, &second);
+    same_machine(image, &library, &second);
     eprintln!("{}, {} bytes: measured", image.name, image.memory.len());
     times.map(|time| tape.len() as f64 / time)
+}
+
+/// Measures calls of a single step in memories of both sizes and writes two tables: calls a second,
+/// and how the time goes with the size.
+pub fn calls() {
+    let images = SIZES.map(recipe);
+    let tape = images[0].tape(SINGLE_CALLS);
+    let mut libraries = images.each_ref().map(Library::new);
+    let mut seconds = images.each_ref().map(Second::new);
+    let ([a, c], [b, d]) = (libraries.each_mut(), seconds.each_mut());
+    let times = in_turn(
+        ROUND,
+        [
+            &mut || a.run_singly(&tape),
+            &mut || b.run_singly(&tape),
+            &mut || c.run_singly(&tape),
+            &mut || d.run_singly(&tape),
+        ],
+    );
+    for ((image, library), second) in images.iter().zip(&libraries).zip(&seconds) {
+        same_machine(image, library, second);
+    }
+    eprintln!("{SINGLE}: measured");
+    let [a, b, c, d] = times.map(|time| time / SINGLE_CALLS as f64);
+    let rows = calls_row(SIZES[0], [a, b]) + &calls_row(SIZES[1], [c, d]);
+    let sizes = call_sizes_row("library", [a, c]) + &call_sizes_row("second program", [b, d]);
+    print!("{CALLS_HEAD}{rows}\n{CALL_SIZES_HEAD}{sizes}");
+}
+
+fn calls_row(size: usize, [library, second]: [f64; 2]) -> String {
+    let [fast, slow] = [library, second].map(|time| 1e-6 / time);
+    let size = size / 1024;
+    format!("| {SINGLE} | {size} KiB | {fast:.2} | {slow:.2} | {:.2} |\n", second / library)
+}
+
+fn call_sizes_row(program: &str, times: [f64; 2]) -> String {
+    let [small, large] = times.map(|time| time * 1e9);
+    format!("| {SINGLE} | {program} | {small:.0} | {large:.0} | {:.2} |\n", large / small)
 }
 
 /// Measures every listing and writes two tables: lines a second, and how the time goes with the

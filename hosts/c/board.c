@@ -34,7 +34,7 @@ static const uint8_t handler[] = {
 static const char key[] = "NOTARY KEY STATE";
 enum { KEY = sizeof key - 1 };
 
-static uint8_t state[MANIK_STATE_SIZE], memory[MEMORY], marks[MEMORY];
+static uint8_t state[MANIK_STATE_SIZE], memory[MEMORY], marks[MANIK_MARKS_ROOM(MEMORY)];
 
 static uint32_t get_word(size_t at)
 {
@@ -54,7 +54,9 @@ static void set_up(void)
     memcpy(memory, start, sizeof start);
     memcpy(memory + IBASE + 12, handler, sizeof handler);
     memcpy(memory + KEY_AT, key, KEY);
-    memset(marks + KEY_AT, 1, KEY);
+    /* One bit for each byte of memory: the key's are 1. */
+    for (size_t at = KEY_AT; at < KEY_AT + KEY; at++)
+        marks[at / 8] |= (uint8_t)(1 << at % 8);
     put_word(MANIK_AT_PSW, IE | LINE_2);
     put_word(MANIK_AT_SFR1 + 4 * (SFR_IBASE - 1), IBASE);
     put_word(MANIK_AT_SFR1 + 4 * (SFR_HWDBG - 1), 3);

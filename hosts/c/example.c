@@ -1,4 +1,4 @@
-/* Runs document 01's whole example through the C library, then a call that is refused and one whose record is out of shape. */
+/* Runs document 01's whole example through the C library, then two calls that are refused and one whose record is out of shape. */
 #include <inttypes.h>
 #include <stdio.h>
 #include <stdlib.h>
@@ -11,7 +11,7 @@ enum { MEMORY = 16, BUDGET = 3, SFR_HWDBG = 6 };
 struct machine {
     uint8_t state[MANIK_STATE_SIZE];
     uint8_t memory[MEMORY];
-    uint8_t marks[MEMORY];
+    uint8_t marks[MANIK_MARKS_ROOM(MEMORY)];
     uint64_t steps;
 };
 
@@ -41,7 +41,7 @@ static struct machine fresh(void)
 static uint32_t run(struct machine *m, size_t memory_size)
 {
     static const uint8_t tape[BUDGET] = { 0 };
-    return manik_run(m->state, sizeof m->state, m->memory, memory_size, m->marks, memory_size, tape, sizeof tape, BUDGET, &m->steps);
+    return manik_run(m->state, sizeof m->state, m->memory, memory_size, m->marks, MANIK_MARKS_ROOM(memory_size), tape, sizeof tape, BUDGET, &m->steps);
 }
 
 static void expect(int fact, const char *what)
@@ -85,7 +85,23 @@ static void refused(void)
     expect_unchanged(&m, &before);
 }
 
-/* A mark is 0 or 1. */
+/* The marks of twelve bytes of memory end in the middle of the second mark byte: bit 3 is the last byte's, bit 4 is past the end. */
+static void past_the_end(void)
+{
+    struct machine before = fresh();
+    before.marks[1] = 1 << 3;
+    struct machine m = before;
+    expect(run(&m, 12) == MANIK_BUDGET, "reply with the last byte marked");
+    before.marks[1] = 1 << 4;
+    m = before;
+    m.steps = 7;
+    uint32_t reply = run(&m, 12);
+    printf("refused\t%" PRIu32 "\n", reply);
+    expect(reply == MANIK_MARK_PAST_END, "reply of a bit past the end");
+    expect_unchanged(&m, &before);
+}
+
+/* The record's marks are bytes of 0 or 1. */
 static void out_of_shape(void)
 {
     struct machine before = fresh();
@@ -102,6 +118,7 @@ int main(void)
 {
     whole_example();
     refused();
+    past_the_end();
     out_of_shape();
     return EXIT_SUCCESS;
 }

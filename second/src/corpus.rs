@@ -41,6 +41,7 @@ pub struct Case {
     pub name: String,
     pub state: State,
     pub memory: Vec<u8>,
+    /// A bit for each byte of memory.
     pub marks: Vec<u8>,
     pub tape: Vec<u8>,
     pub budget: u32,
@@ -60,6 +61,8 @@ pub struct Promise {
     pub bus_error: Option<Access>,
     /// What all the steps cost, where that is said.
     pub cycles: Option<u32>,
+    /// A place of the mark slice and its byte after the run, where that is said.
+    pub mark_byte: Option<(usize, u8)>,
 }
 
 impl Case {
@@ -132,7 +135,7 @@ pub fn answers_file() -> String {
 const REPLIES: [Reply; 10] = [
     Reply::MemoryLength,
     Reply::MarkLength,
-    Reply::MarkByte,
+    Reply::MarkPastEnd,
     Reply::StateForm,
     Reply::TapeLength,
     Reply::TapeByte,

@@ -5,6 +5,7 @@
 use crate::cost;
 use crate::isa::{data_address, decode, jump_target, needs_second};
 use crate::isa::{AluOp, CompareImmediateOp, CompareOp, ConditionalOp, Instr, MultShiftOp, When};
+use crate::marks;
 use crate::reply::Reply;
 use crate::state::{hwdbg, psw, sfr, Register, State};
 use crate::word::{self, sign_extend, Width};
@@ -25,7 +26,7 @@ pub(crate) enum Effect {
     TimerWritten,
 }
 
-/// Memory and its marks, one for each byte.
+/// Memory and its marks, a bit for each byte.
 struct Memory<'m> {
     bytes: &'m mut [u8],
     marks: &'m mut [u8],
@@ -51,6 +52,12 @@ enum Unfetched {
     /// A half of it is outside memory.
     Outside,
     Stops(Reply),
+}
+
+/// Stop 12. Mostly it doesn't come, and the compiler is told so.
+#[cold]
+fn fetch_marked() -> Unfetched {
+    Unfetched::Stops(Reply::FetchMarked)
 }
 
 /// The instruction at `pc`. "A program counter found odd inside a run answers 13, before all
@@ -354,8 +361,8 @@ impl Memory<'_> {
     #[inline(always)]
     fn half(&self, address: u32) -> Result<u16, Unfetched> {
         let half = word::load(self.bytes, address, Width::Half).ok_or(Unfetched::Outside)?;
-        if self.any_marked(address, Width::Half) {
-            return Err(Unfetched::Stops(Reply::FetchMarked));
+        if marks::any_marked(self.marks, address, Width::Half) {
+            return Err(fetch_marked());
         }
         Ok(half as u16)
     }
@@ -364,22 +371,18 @@ impl Memory<'_> {
     #[inline]
     fn load(&self, address: u32, width: Width) -> Option<Register> {
         let value = word::load(self.bytes, address, width)?;
-        Some(Register { value, marked: self.any_marked(address, width) })
+        Some(Register { value, marked: marks::any_marked(self.marks, address, width) })
     }
 
     /// Stores at an aligned address. "A stored byte takes the register's mark, so an unmarked
     /// store clears one." If it is outside, the answer is false and nothing changes.
     #[inline]
     fn store(&mut self, address: u32, width: Width, register: Register) -> bool {
-        let mark_bytes = if register.marked { 0x0101_0101 } else { 0 };
-        word::store(self.bytes, address, width, register.value)
-            && word::store(self.marks, address, width, mark_bytes)
-    }
-
-    /// Whether any byte of an access is marked. Mark bytes are 0 or 1.
-    #[inline]
-    fn any_marked(&self, address: u32, width: Width) -> bool {
-        word::load(self.marks, address, width) != Some(0)
+        let inside = word::store(self.bytes, address, width, register.value);
+        if inside {
+            marks::set(self.marks, address, width, register.marked);
+        }
+        inside
     }
 }
 

@@ -22,6 +22,9 @@ pub mod vectors;
 /// What the model has: registers, SFR, their marks, and the state in form.
 pub mod state;
 
+/// The marks of memory, a bit for each byte.
+pub mod marks;
+
 /// Replies of a run.
 pub mod reply;
 

@@ -25,7 +25,7 @@ subcommands:
                    LENGTH, or the line and the number of its refusal (document 02)
   corpus-cases     write the cases of the corpus of whole runs, in binary (docs/CORPUS.md)
   corpus-answers   write the answers to these cases
-  corpus-coverage  write how often these cases reach each mnemonic, reply and entry
+  corpus-coverage  write how often these cases reach each mnemonic, reply, entry and class of marks
   assembly-cases   write the cases of the assembler, in binary (docs/CORPUS.md)
   assembly-answers write the answers to these cases
 ";

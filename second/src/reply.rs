@@ -6,10 +6,10 @@
 pub enum Reply {
     /// Memory length is 0, above 65,536, or no multiple of 4.
     MemoryLength = 1,
-    /// Mark slice of another length.
+    /// Mark slice of another length than a bit for each byte takes (document 02, ticket 7).
     MarkLength = 2,
-    /// A mark byte above 1.
-    MarkByte = 3,
+    /// A set bit past the memory's end (document 02, ticket 7).
+    MarkPastEnd = 3,
     /// State out of form.
     StateForm = 4,
     /// Tape shorter than the budget.

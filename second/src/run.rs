@@ -1,5 +1,6 @@
 //! A run under a budget (document 01, "Replies of a run").
 
+use crate::marks;
 use crate::reply::Reply;
 use crate::state::State;
 use crate::step::{step, Step};
@@ -20,7 +21,8 @@ pub struct Outcome {
     pub cycles: u32,
 }
 
-/// Runs over the lent memory and marks, at most `budget` steps, one tape byte for each.
+/// Runs over the lent memory and marks, at most `budget` steps, one tape byte for each. The marks are
+/// bits, as `marks` has them.
 pub fn run(
     state: &mut State,
     memory: &mut [u8],
@@ -64,11 +66,11 @@ fn accepted_tape<'t>(
     if memory.is_empty() || memory.len() > LONGEST_MEMORY || !memory.len().is_multiple_of(4) {
         return Err(Reply::MemoryLength);
     }
-    if marks.len() != memory.len() {
+    if marks.len() != marks::room(memory.len()) {
         return Err(Reply::MarkLength);
     }
-    if highest(marks) > 1 {
-        return Err(Reply::MarkByte);
+    if marks::any_past_end(marks, memory.len()) {
+        return Err(Reply::MarkPastEnd);
     }
     if !state.in_form() {
         return Err(Reply::StateForm);

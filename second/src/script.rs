@@ -2,6 +2,7 @@
 
 use std::ops::Range;
 
+use crate::marks;
 use crate::run::run;
 use crate::state::State;
 
@@ -46,7 +47,8 @@ fn read(input: &[u8]) -> Result<Script, BadLine> {
     let Some(Line::Mem { size }) = next_line(&mut rest) else {
         return Err(BadLine(1));
     };
-    let mut script = Script { memory: vec![0; size], marks: vec![0; size], budget: 0 };
+    let (memory, marks) = (vec![0; size], vec![0; marks::room(size)]);
+    let mut script = Script { memory, marks, budget: 0 };
     let mut number = 1;
     loop {
         number += 1;
@@ -142,7 +144,9 @@ impl Script {
     /// Marks bytes. None if one is outside memory; of no bytes none is, wherever they begin.
     fn mark(&mut self, address: u32, count: usize) -> Option<()> {
         if count > 0 {
-            self.marks.get_mut(places(address, count)?)?.fill(1);
+            let places = places(address, count)?;
+            self.memory.get(places.clone())?;
+            marks::mark(&mut self.marks, places);
         }
         Some(())
     }

@@ -133,7 +133,8 @@ fn the_edges_do_what_their_names_say() {
         let cycles = after.state.cycles.wrapping_sub(edge.state.cycles);
         let answer = |said: Promise| {
             let cycles = said.cycles.map(|_| cycles);
-            Promise { reply, steps, bus_error, cycles }
+            let mark_byte = said.mark_byte.map(|(place, _)| (place, after.marks[place]));
+            Promise { reply, steps, bus_error, cycles, mark_byte }
         };
         assert_eq!(edge.promise, edge.promise.map(answer), "{}", edge.name);
         if outcome.steps == 0 {
@@ -166,7 +167,7 @@ fn the_last_field_of_an_answer_is_the_digest_of_the_trace() {
     let mut memory = vec![0; 16];
     memory[..2].copy_from_slice(&[0x10, 0x03]); // swint 3
     memory[4..6].copy_from_slice(&[0x40, 0x11]); // ldrpc r1 from 4 + 4 * 1
-    let (marks, tape, state) = (vec![0; 16], vec![0; 2], State::fresh());
+    let (marks, tape, state) = (vec![0; 2], vec![0; 2], State::fresh());
     let name = "swint and ldrpc".to_string();
     let mut case = Case { name, state, memory, marks, tape, budget: 2, promise: None };
     assert_eq!(trace_digest(&case), 2_634_015_401);
@@ -229,7 +230,7 @@ fn no_line_of_the_coverage_is_zero() {
         assert!(*count > 0, "no {kind} {name}");
     }
     let of = |kind| coverage.lines.iter().filter(|line| line.0 == kind).count();
-    assert_eq!((of("step"), of("reply"), of("entry")), (59, 10, 7));
+    assert_eq!((of("step"), of("reply"), of("entry"), of("marks")), (59, 10, 7, 11));
 }
 
 #[test]

@@ -220,6 +220,35 @@ fn a_byte_or_mark_outside_memory_is_bad() {
     assert_bad("mem 16\nmark 00000000 99999\nrun 0\n", 2);
 }
 
+/// The mark slice of these memories has bits past their end, also of such as the run refuses.
+#[test]
+fn a_mark_past_the_end_is_bad_where_its_mark_byte_goes_on() {
+    for (size, reply) in [(4, 10), (12, 10), (20, 10), (60, 10), (1, 1), (6, 1), (15, 1)] {
+        let mark = |first: u32, count| format!("mem {size}\nmark {first:08x} {count}\nrun 0\n");
+        let end = if reply == 10 { "end 10 0\npc 00000000\n" } else { "end 1 0\n" };
+        assert_answer(&mark(size - 1, 1), end);
+        assert_answer(&mark(0, size), end);
+        assert_bad(&mark(size, 1), 2);
+        assert_bad(&mark(size - 1, 2), 2);
+        assert_bad(&mark(0, size.next_multiple_of(8)), 2);
+    }
+}
+
+/// A `mark` line marks the bytes that it names: what is loaded from beside them is unmarked.
+#[test]
+fn a_mark_is_of_its_own_bytes() {
+    for place in 8..16 {
+        for other in 8..16 {
+            // movi r1; ldrb r2 from r1 + 0, which is 0.
+            let code = format!("701{other:x}c021");
+            let lines = format!("mem 16\nat 00000000 {code}\nmark {place:08x} 1\nrun 2\n");
+            let loaded = if place == other { "r2 ********\n" } else { "" };
+            let expected = format!("end 10 2\npc 00000004\nr1 {other:08x}\n{loaded}");
+            assert_answer(&lines, &expected);
+        }
+    }
+}
+
 #[test]
 fn a_mark_of_0_bytes_marks_nothing_and_is_good_anywhere() {
     for address in ["00000000", "00000010", "00000011", "7fffffff", "ffffffff"] {

@@ -6,6 +6,7 @@ use mathlib.Core.Bool.{Bool, true, false}
 use mathlib.Core.List.{List, [], _++_, flatten}
 use native.Mathlib.Omega.{arith}
 use lib.ListN.{length, getD, drop, drop-of-length-le}
+use Rattle.marks.specs.Memory.{Marks, bits}
 use Rattle.instruction.specs.Reply.{numberOf}
 use Rattle.machine.specs.Run.{judge, runOf}
 use Rattle.machine.specs.declared.State.{State}
@@ -71,27 +72,27 @@ record-shaped s n l =
     })
 
 -- 5. A call that was given a record leaves one: it can go into the next call.
-pub call-leaves-record : (r m k t : List ℕ) (b : ℕ) → shaped r ≡ true → shaped (called r m k t b .state) ≡ true
+pub call-leaves-record : (r m : List ℕ) (k : Marks) (t : List ℕ) (b : ℕ) → shaped r ≡ true → shaped (called r m k t b .state) ≡ true
 unfolding called
 call-leaves-record r m k t b e =
     let h = run-sixteen b t (stateAt r) m k (sixteen-at r) in
     rw e (record-shaped (runOf b t (stateAt r) m k .ended .state) (h .0) (h .1))
 
 -- 6. Refusals 1 to 6 change nothing, the record included.
-pub refusal-keeps-record : (r m k t : List ℕ) (b : ℕ) (q : Reply) → Bytes r → shaped r ≡ true → judge b t (stateAt r) m k ≡ Judged.Refused q
+pub refusal-keeps-record : (r m : List ℕ) (k : Marks) (t : List ℕ) (b : ℕ) (q : Reply) → Bytes r → shaped r ≡ true → judge b t (stateAt r) m k ≡ Judged.Refused q
     → called r m k t b ≡ record { reply = numberOf q; steps = 0; state = r; mem = m; marks = k }
 unfolding called
 refusal-keeps-record r m k t b q h e j = rw (e, refusal-changes-nothing b t (stateAt r) m k q j, write-back r h e)
 
 -- 7. The answer is 0 exactly if what was given is no record; then nothing changes.
-pub no-record : (r m k t : List ℕ) (b : ℕ) → shaped r ≡ false → called r m k t b ≡ notRecord r m k
+pub no-record : (r m : List ℕ) (k : Marks) (t : List ℕ) (b : ℕ) → shaped r ≡ false → called r m k t b ≡ notRecord r m k
 unfolding called
 no-record r m k t b e = rw e
 
 number-above : (q : Reply) → 0 < numberOf q
 number-above Reply.MemoryLength = omega arith
 number-above Reply.MarkLength = omega arith
-number-above Reply.MarkByte = omega arith
+number-above Reply.MarkPastEnd = omega arith
 number-above Reply.Form = omega arith
 number-above Reply.TapeLength = omega arith
 number-above Reply.TapeByte = omega arith
@@ -100,17 +101,17 @@ number-above Reply.FetchMarked = omega arith
 number-above Reply.NoInstruction = omega arith
 number-above Reply.MarkedOperand = omega arith
 
-pub record-answers : (r m k t : List ℕ) (b : ℕ) → shaped r ≡ true → 0 < called r m k t b .reply
+pub record-answers : (r m : List ℕ) (k : Marks) (t : List ℕ) (b : ℕ) → shaped r ≡ true → 0 < called r m k t b .reply
 unfolding called
 record-answers r m k t b e = rw e (number-above (runOf b t (stateAt r) m k .ended .reply))
 
--- 8. What manik_run ensures of its result x, of the step count n, and of the record s, memory o and marks l at exit determines them: two that satisfy it
+-- 8. What manik_run ensures of its result x, of the step count n, and of the record s, memory o and mark slice l at exit determines them: two that satisfy it
 -- coincide.
-abbrev pub Ensured : List ℕ → List ℕ → List ℕ → List ℕ → ℕ → ℕ → ℕ → List ℕ → List ℕ → List ℕ → Type 0
+abbrev pub Ensured : List ℕ → List ℕ → Marks → List ℕ → ℕ → ℕ → ℕ → List ℕ → List ℕ → Marks → Type 0
 Ensured r m k t b x n s o l =
     (x ≡ called r m k t b .reply) × (n ≡ called r m k t b .steps) × (s ≡ called r m k t b .state) × (o ≡ called r m k t b .mem) × (l ≡ called r m k t b .marks)
 
-pub call-determined : (r m k t : List ℕ) (b x y n i : ℕ) (s q o p l j : List ℕ) → Ensured r m k t b x n s o l → Ensured r m k t b y i q p j
+pub call-determined : (r m : List ℕ) (k : Marks) (t : List ℕ) (b x y n i : ℕ) (s q o p l j : List ℕ) → Ensured r m k t b x n s o (bits l) → Ensured r m k t b y i q p (bits j)
     → (x ≡ y) × (n ≡ i) × (s ≡ q) × (o ≡ p) × (l ≡ j)
 call-determined r m k t b x y n i s q o p l j u v =
-    (u .0 ∙ sym (v .0), u .1 ∙ sym (v .1), u .2 ∙ sym (v .2), u .3 ∙ sym (v .3), u .4 ∙ sym (v .4))
+    (u .0 ∙ sym (v .0), u .1 ∙ sym (v .1), u .2 ∙ sym (v .2), u .3 ∙ sym (v .3), let z = u .4 ∙ sym (v .4) in cc)

@@ -4,6 +4,7 @@ ghost use mathlib.Core.Bool.{_&&_};
 ghost use Prim.Native.Nat.{ℕ, _+_, _*_, _≤_};
 ghost use lib.ListN.{length};
 ghost use lib.Seq.{sets};
+ghost use Rattle.marks.specs.Memory.{bits};
 ghost use Rattle.abi.specs.Record.{wordAt, flagAt, each, controlAt, stateAt, words, flags, controlPart, recordIn, within, shaped};
 ghost use Rattle.abi.specs.Call.{called};
 use cpu::Control;
@@ -184,11 +185,11 @@ pub extern "C" fn manik_run(
     budget: u64,
     steps: &mut u64,
 ) -> u32
-    ensures { λ r. ⌜ r ≡ called (now (state .entry)) (now (mem .entry)) (now (marks .entry)) (now (tape .entry)) budget .reply ⌝ }
-    ensures { λ _. ⌜ now (steps .exit) ≡ called (now (state .entry)) (now (mem .entry)) (now (marks .entry)) (now (tape .entry)) budget .steps ⌝ }
-    ensures { λ _. ⌜ now (state .exit) ≡ called (now (state .entry)) (now (mem .entry)) (now (marks .entry)) (now (tape .entry)) budget .state ⌝ }
-    ensures { λ _. ⌜ now (mem .exit) ≡ called (now (state .entry)) (now (mem .entry)) (now (marks .entry)) (now (tape .entry)) budget .mem ⌝ }
-    ensures { λ _. ⌜ now (marks .exit) ≡ called (now (state .entry)) (now (mem .entry)) (now (marks .entry)) (now (tape .entry)) budget .marks ⌝ }
+    ensures { λ r. ⌜ r ≡ called (now (state .entry)) (now (mem .entry)) (bits (now (marks .entry))) (now (tape .entry)) budget .reply ⌝ }
+    ensures { λ _. ⌜ now (steps .exit) ≡ called (now (state .entry)) (now (mem .entry)) (bits (now (marks .entry))) (now (tape .entry)) budget .steps ⌝ }
+    ensures { λ _. ⌜ now (state .exit) ≡ called (now (state .entry)) (now (mem .entry)) (bits (now (marks .entry))) (now (tape .entry)) budget .state ⌝ }
+    ensures { λ _. ⌜ now (mem .exit) ≡ called (now (state .entry)) (now (mem .entry)) (bits (now (marks .entry))) (now (tape .entry)) budget .mem ⌝ }
+    ensures { λ _. ⌜ bits (now (marks .exit)) ≡ called (now (state .entry)) (now (mem .entry)) (bits (now (marks .entry))) (now (tape .entry)) budget .marks ⌝ }
 {
     if is_shaped(state) {
         let ended = machine::run::run(budget as usize, tape, state_at(state), mem, marks);

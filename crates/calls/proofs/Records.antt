@@ -19,6 +19,7 @@ use Rattle.word.proofs.Memory.{load-same}
 use Rattle.cpu.specs.Control.{withSfr, withPsw}
 use Rattle.cpu.specs.declared.Control.{Control}
 use Rattle.marks.specs.declared.Flags.{Flags}
+use Rattle.marks.specs.Memory.{Marks}
 use Rattle.instruction.specs.Reply.{numberOf}
 use Rattle.machine.specs.Run.{Final, runOf}
 use Rattle.machine.specs.declared.State.{State}
@@ -336,7 +337,7 @@ record-bytes a =
     (append-bytes (zeros 1) (from92 a) (zero-bytes 1)
     (append-bytes (words (laterWords (a .control))) from136 (laid-bytes 4 (laterWords (a .control))) (append-bytes (zeros 24) [] (zero-bytes 24) no-bytes))))))
 
-pub call-bytes : (r m k t : List ℕ) (b : ℕ) → Bytes r → Bytes (called r m k t b .state)
+pub call-bytes : (r m : List ℕ) (k : Marks) (t : List ℕ) (b : ℕ) → Bytes r → Bytes (called r m k t b .state)
 unfolding called
 call-bytes r m k t b h = go (shaped r)
   where
@@ -356,7 +357,7 @@ answer-same x y s n =
       mem = s .mem;
     }
 
-pub call-same : (r q m n k t : List ℕ) (b : ℕ) → SameRecord r q → SameMem k m n → SameAnswer (called r m k t b) (called q n k t b)
+pub call-same : (r q m n : List ℕ) (k : Marks) (t : List ℕ) (b : ℕ) → SameRecord r q → SameMem k m n → SameAnswer (called r m k t b) (called q n k t b)
 unfolding called
 call-same r q m n k t b s mem = rw (← shaped-same s) (go (shaped r) refl)
   where

@@ -6,12 +6,13 @@ use mathlib.Core.Path.{_≡_, sym, ap, subst, _∙_}
 use mathlib.Core.List.{List, [], _∷_}
 use lib.ListN.{length}
 use lib.Seq.{sets}
+use Rattle.marks.specs.Memory.{Marks}
 use Rattle.machine.specs.declared.State.{State}
 use Rattle.secrecy.specs.Same.{SameMem, Same}
 use Rattle.abi.specs.Record.{stateAt, recordOf, Bytes}
 use Rattle.abi.specs.Call.{Answer, called}
 use Rattle.abi.proofs.Theorems.{Ensured}
-use Rattle.script.specs.Line.{blank}
+use Rattle.script.specs.Line.{blank, unmarked}
 use Rattle.script.specs.Reader.{fed, startOf}
 use Rattle.text.specs.Pages.{page, writeOn}
 use Rattle.answer.specs.Answer.{answerBy}
@@ -26,11 +27,11 @@ use Rattle.calls.proofs.Instance.{one, other, one-other}
 
 -- 1. Two calls of manik_run with equal marks k, tape t and budget b, whose records r and q and memories m and n differ only where marked. They return the
 -- same number and step count, and leave equal marks, and records and memories that again differ only where marked. Every list: one that is no record too.
-pub two-records : (r q m n k t : List ℕ) (b : ℕ) → SameRecord r q → SameMem k m n → SameAnswer (called r m k t b) (called q n k t b)
+pub two-records : (r q m n : List ℕ) (k : Marks) (t : List ℕ) (b : ℕ) → SameRecord r q → SameMem k m n → SameAnswer (called r m k t b) (called q n k t b)
 two-records r q m n k t b s mem = call-same r q m n k t b s mem
 
 -- 2. So do calls one after the other, however many, each on what the one before it left.
-pub two-hosts : (cs : List Call) (r q m n k : List ℕ) → SameRecord r q → SameMem k m n → SameAnswers (answersOf cs r m k) (answersOf cs q n k)
+pub two-hosts : (cs : List Call) (r q m n : List ℕ) (k : Marks) → SameRecord r q → SameMem k m n → SameAnswers (answersOf cs r m k) (answersOf cs q n k)
 unfolding answersOf
 two-hosts [] r q m n k s mem = none
 two-hosts (c ∷ cs) r q m n k s mem =
@@ -38,11 +39,11 @@ two-hosts (c ∷ cs) r q m n k s mem =
     let y : Answer = called q n k (c .tape) (c .budget) in
     let a : SameAnswer x y = two-records r q m n k (c .tape) (c .budget) s mem in
     more a
-    (subst (λ (l : List ℕ). SameAnswers (answersOf cs (x .state) (x .mem) (x .marks)) (answersOf cs (y .state) (y .mem) l)) (a .marks)
+    (subst (λ (l : Marks). SameAnswers (answersOf cs (x .state) (x .mem) (x .marks)) (answersOf cs (y .state) (y .mem) l)) (a .marks)
     (two-hosts cs (x .state) (y .state) (x .mem) (y .mem) (x .marks) (a .state) (a .mem)))
 
 -- 3. The same of two calls from what manik_run's contract ensures: x and y are what each of them leaves.
-pub two-calls : (r q m n k t : List ℕ) (b : ℕ) (x y : Answer) → SameRecord r q → SameMem k m n
+pub two-calls : (r q m n : List ℕ) (k : Marks) (t : List ℕ) (b : ℕ) (x y : Answer) → SameRecord r q → SameMem k m n
     → Ensured r m k t b (x .reply) (x .steps) (x .state) (x .mem) (x .marks) → Ensured q n k t b (y .reply) (y .steps) (y .state) (y .mem) (y .marks)
     → SameAnswer x y
 two-calls r q m n k t b x y s mem e f =
@@ -67,7 +68,7 @@ pub psw-bytes : (r q : List ℕ) → Bytes r → Bytes q → length r ≡ 160 �
     → (PswClause r q → SamePswBytes r q) × (SamePswBytes r q → PswClause r q)
 psw-bytes r q b c n o = (psw-apart r q b c n o, psw-joined r q b c n o)
 
-pub call-leaves-bytes : (r m k t : List ℕ) (b : ℕ) → Bytes r → Bytes (called r m k t b .state)
+pub call-leaves-bytes : (r m : List ℕ) (k : Marks) (t : List ℕ) (b : ℕ) → Bytes r → Bytes (called r m k t b .state)
 call-leaves-bytes r m k t b h = call-bytes r m k t b h
 
 -- 6. Two inputs of the small program that differ only in the contents of bytes that they mark: it writes the same text for both.
@@ -83,11 +84,11 @@ equal-marks x y a = marks-same x y a
 pub two-answers : (ps qs : List (List ℕ)) (l h o out room : List ℕ) (n i : ℕ) → AlikeInputs (joined ps) (joined qs) → length l ≡ 45 → length h ≡ 45 → length o ≡ 256
     → page out n
     ≡ writeOn
-    (answerBy (feedAll ps (fed startOf l blank blank) .reader) (feedAll ps (fed startOf l blank blank) .mem) (feedAll ps (fed startOf l blank blank) .marks) .text)
+    (answerBy (feedAll ps (fed startOf l blank unmarked) .reader) (feedAll ps (fed startOf l blank unmarked) .mem) (feedAll ps (fed startOf l blank unmarked) .marks) .text)
     (page o 0)
     → page room i
     ≡ writeOn
-    (answerBy (feedAll qs (fed startOf h blank blank) .reader) (feedAll qs (fed startOf h blank blank) .mem) (feedAll qs (fed startOf h blank blank) .marks) .text)
+    (answerBy (feedAll qs (fed startOf h blank unmarked) .reader) (feedAll qs (fed startOf h blank unmarked) .mem) (feedAll qs (fed startOf h blank unmarked) .marks) .text)
     (page o 0)
     → page out n ≡ page room i
 two-answers ps qs l h o out room n i a p q r e f =

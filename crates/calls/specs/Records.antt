@@ -5,6 +5,7 @@ use Prim.Native.Nat.{ℕ, _+_, _/_, _%_, _<_, _≤_}
 use mathlib.Core.Path.{_≡_}
 use mathlib.Core.List.{List, [], _∷_}
 use lib.ListN.{length, getD}
+use Rattle.marks.specs.Memory.{Marks}
 use Rattle.abi.specs.Record.{wordAt, flagAt}
 use Rattle.abi.specs.Call.{Answer, called}
 use Rattle.secrecy.specs.Same.{SamePsw, SameMem}
@@ -50,7 +51,7 @@ pub record Call : Type 0 where
   pub budget : ℕ
 
 -- each call takes the record, memory and marks that the one before it left; r, m and k are those at the start
-unfoldable pub answersOf : List Call → List ℕ → List ℕ → List ℕ → List Answer
+unfoldable pub answersOf : List Call → List ℕ → List ℕ → Marks → List Answer
 answersOf [] r m k = []
 answersOf (c ∷ cs) r m k =
     called r m k (c .tape) (c .budget)

@@ -12,14 +12,14 @@ use Rattle.isa.specs.Codes.{kindOf}
 use Rattle.isa.specs.Decode.{nibC, nibD, shortIf, operandsOf, decodeOf}
 use Rattle.isa.specs.declared.Kind.{Kind}
 use Rattle.isa.specs.declared.Instr.{Instr}
-use Rattle.marks.specs.Memory.{markedAt}
+use Rattle.marks.specs.Memory.{Marks, markedAt}
 use Rattle.instruction.specs.Fetch.{halfAt, afterHalf, guarded, found, fetchOf}
 use Rattle.instruction.specs.Parts.{halfOf, firstHalf, secondHalf, decodedTo, bySecond, restBy, byFirst}
 use Rattle.instruction.specs.declared.Halt.{Halt}
 use Rattle.instruction.specs.declared.Fetched.{Fetched}
 use Rattle.instruction.specs.declared.Half.{Half}
 
-pub by-second : (d : Kind) (h : ℕ) (a : ByteAddr) (m k : List ℕ) (x : Half) → x ≡ secondHalf d (afterHalf a) m k → bySecond x d h ≡ restBy d h a m k
+pub by-second : (d : Kind) (h : ℕ) (a : ByteAddr) (m : List ℕ) (k : Marks) (x : Half) → x ≡ secondHalf d (afterHalf a) m k → bySecond x d h ≡ restBy d h a m k
 unfolding restBy
 by-second d h a m k x e = ap (λ (y : Half). bySecond y d h) e
 
@@ -32,7 +32,7 @@ tests false true d h s = refl
 tests false false d h s = refl
 
 -- what the halves decode to is found by the kind of the first: only a long jump looks at the second
-pub found-by-kind : (h : ℕ) (a : ByteAddr) (m k : List ℕ)
+pub found-by-kind : (h : ℕ) (a : ByteAddr) (m : List ℕ) (k : Marks)
     → found (decodeOf h (halfAt m (afterHalf a))) (afterHalf a) m k ≡ restBy (kindOf (h / 256)) h a m k
 unfolding decodeOf operandsOf restBy secondHalf halfOf
 found-by-kind h a m k = go (kindOf (h / 256))
@@ -66,7 +66,7 @@ found-by-kind h a m k = go (kindOf (h / 256))
     go (Kind.LongJump op) = tests (not (inside m b 2)) (markedAt Width.Half k b) (Kind.LongJump op) h (halfAt m b)
 
 -- so a fetch is its first half, and then the rest by its kind
-pub fetch-by-parts : (a : ByteAddr) (m k : List ℕ) → fetchOf a m k ≡ byFirst (firstHalf a m k) a m k
+pub fetch-by-parts : (a : ByteAddr) (m : List ℕ) (k : Marks) → fetchOf a m k ≡ byFirst (firstHalf a m k) a m k
 unfolding fetchOf firstHalf halfOf
 fetch-by-parts a m k =
     ap (λ (x : Fetched). cond (eqb (a .0 % 2) 1) (Fetched.Halted Halt.NoInstruction) (guarded a m k x)) (found-by-kind (halfAt m a) a m k)

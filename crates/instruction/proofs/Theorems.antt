@@ -16,13 +16,13 @@ use Rattle.isa.specs.Encode.{encodeOf}
 use Rattle.isa.specs.declared.Instr.{Instr}
 use Rattle.isa.specs.declared.Decoded.{Decoded}
 use Rattle.isa.proofs.Theorems.{short-encodes, long-encodes}
-use Rattle.marks.specs.Memory.{markedAt}
+use Rattle.marks.specs.Memory.{Marks, markedAt}
 use Rattle.instruction.specs.Fetch.{halfAt, afterHalf, found, fetchOf}
 use Rattle.instruction.specs.Statements.{decodedAt, Is, short, long, At, two, four}
 use Rattle.instruction.specs.declared.Halt.{Halt}
 use Rattle.instruction.specs.declared.Fetched.{Fetched}
 
-module _ (a : ByteAddr) (m k : List ℕ) where
+module _ (a : ByteAddr) (m : List ℕ) (k : Marks) where
   -- 1. What is run at an address is what the halves there decode to ..
   pub runs-what-decodes : (i : Instr) → fetchOf a m k ≡ Fetched.Run i → Is i (decodedAt m a)
   unfolding fetchOf

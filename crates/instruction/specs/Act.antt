@@ -10,7 +10,7 @@ use Rattle.cpu.specs.Control.{tf}
 use Rattle.cpu.specs.Exec.{exec, dataAddress}
 use Rattle.cpu.specs.declared.Control.{Control}
 use Rattle.marks.specs.Marks.{taint, blocked}
-use Rattle.marks.specs.Memory.{markedAt}
+use Rattle.marks.specs.Memory.{Marks, markedAt}
 use Rattle.marks.specs.declared.Flags.{Flags}
 use Rattle.instruction.specs.declared.Halt.{Halt}
 use Rattle.instruction.specs.declared.Reach.{Reach}
@@ -55,14 +55,14 @@ loadedFrom (Reach.Reads w a) m = loadOf w m a
 loadedFrom (Reach.Writes w a) m = 0
 loadedFrom (Reach.Raises n) m = 0
 
-abbrev pub loadedMark : Reach → List ℕ → Bool
+abbrev pub loadedMark : Reach → Marks → Bool
 loadedMark Reach.Nowhere k = false
 loadedMark (Reach.Reads w a) k = markedAt w k a
 loadedMark (Reach.Writes w a) k = false
 loadedMark (Reach.Raises n) k = false
 
 -- what it does, x and y its operands; y is the base, the target or the source whose mark the rules test
-unfoldable pub actOf : Instr → Val → Val → Flags → Control → List ℕ → List ℕ → Act
+unfoldable pub actOf : Instr → Val → Val → Flags → Control → List ℕ → Marks → Act
 actOf i x y f c m k =
     cond (blocked i (y .mark) f) (Act.Halted Halt.MarkedOperand)
     (cond (outside (reachOf i (y .value) c) m) (Act.Halted Halt.DataOutside)

@@ -15,7 +15,7 @@ use Rattle.isa.specs.declared.Instr.{Instr}
 use Rattle.cpu.specs.Exec.{exec}
 use Rattle.cpu.specs.declared.Control.{Control}
 use Rattle.marks.specs.Marks.{with}
-use Rattle.marks.specs.Memory.{markedAt}
+use Rattle.marks.specs.Memory.{Marks, markedAt}
 use Rattle.marks.specs.declared.Flags.{Flags}
 use Rattle.instruction.specs.Fetch.{halfAt, afterHalf}
 use Rattle.instruction.specs.Act.{Val}
@@ -35,12 +35,12 @@ flags tf cy = record { tf = tf; cy = cy }
 -- ---- a fetch in two parts: the first half, and the rest by its kind
 
 -- the half at a, or why it cannot be read
-unfoldable pub halfOf : ByteAddr → List ℕ → List ℕ → Half
+unfoldable pub halfOf : ByteAddr → List ℕ → Marks → Half
 halfOf a m k =
     cond (not (inside m a (bytesOf Width.Half))) (Half.Halted Halt.FetchOutside)
     (cond (markedAt Width.Half k a) (Half.Halted Halt.FetchMarked) (Half.Bits (halfAt m a)))
 
-unfoldable pub firstHalf : ByteAddr → List ℕ → List ℕ → Half
+unfoldable pub firstHalf : ByteAddr → List ℕ → Marks → Half
 firstHalf a m k = cond (isOdd a) (Half.Halted Halt.NoInstruction) (halfOf a m k)
 
 -- the kinds of four bytes
@@ -66,7 +66,7 @@ isLongKind (Kind.ShortJump op) = false
 isLongKind (Kind.LongJump op) = true
 
 -- a second half, 0 for the kinds of two bytes
-unfoldable pub secondHalf : Kind → ByteAddr → List ℕ → List ℕ → Half
+unfoldable pub secondHalf : Kind → ByteAddr → List ℕ → Marks → Half
 secondHalf d a m k = cond (isLongKind d) (halfOf a m k) (Half.Bits 0)
 
 abbrev pub decodedTo : Decoded → Fetched
@@ -79,17 +79,17 @@ bySecond (Half.Halted r) d h = Fetched.Halted r
 bySecond (Half.Bits s) d h = decodedTo (operandsOf d h s)
 
 -- the first half is h, at a, and of kind d
-unfoldable pub restBy : Kind → ℕ → ByteAddr → List ℕ → List ℕ → Fetched
+unfoldable pub restBy : Kind → ℕ → ByteAddr → List ℕ → Marks → Fetched
 restBy d h a m k = bySecond (secondHalf d (afterHalf a) m k) d h
 
 -- the fetch by its first half
-abbrev pub byFirst : Half → ByteAddr → List ℕ → List ℕ → Fetched
+abbrev pub byFirst : Half → ByteAddr → List ℕ → Marks → Fetched
 byFirst (Half.Halted r) a m k = Fetched.Halted r
 byFirst (Half.Bits h) a m k = restBy (kindOf (h / 256)) h a m k
 
 -- ---- a load of register d and a store, at an address
 
-abbrev pub loadAct : Width → ByteAddr → ℕ → Flags → Control → List ℕ → List ℕ → Act
+abbrev pub loadAct : Width → ByteAddr → ℕ → Flags → Control → List ℕ → Marks → Act
 loadAct w a d f c m k =
     cond (not (inside m a (bytesOf w))) (Act.Halted Halt.DataOutside)
     (Act.Does (exec (Instr.Ldrpc d 0) 0 0 (loadOf w m a) c) (with (markedAt w k a) f) (Reach.Reads w a))

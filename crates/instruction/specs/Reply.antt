@@ -6,7 +6,7 @@ use Rattle.instruction.specs.declared.Reply.{Reply}
 abbrev pub numberOf : Reply → ℕ
 numberOf Reply.MemoryLength = 1
 numberOf Reply.MarkLength = 2
-numberOf Reply.MarkByte = 3
+numberOf Reply.MarkPastEnd = 3
 numberOf Reply.Form = 4
 numberOf Reply.TapeLength = 5
 numberOf Reply.TapeByte = 6

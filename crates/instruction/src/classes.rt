@@ -8,6 +8,7 @@ ghost use Rattle.word.specs.declared.Width.{Width};
 ghost use Rattle.isa.specs.declared.Instr.{Instr};
 ghost use Rattle.cpu.specs.Exec.{exec, dataAddress};
 ghost use Rattle.marks.specs.Marks.{with, taint, aluBlocked, shortBlocked, longBlocked};
+ghost use Rattle.marks.specs.Memory.{bits};
 ghost use Rattle.instruction.specs.Act.{actOf};
 ghost use Rattle.instruction.specs.Parts.{val, flags, loadAct, storeAct};
 ghost use Rattle.instruction.specs.declared.Halt.{Halt};
@@ -69,11 +70,11 @@ fn load_at(
     m: &[u8],
     mk: &[u8],
 ) -> Act
-    ensures { λ r. ⌜ r ≡ cond marked (Act.Halted Halt.MarkedOperand) (loadAct w at d (flags tf cy) c (now (m .entry)) (now (mk .entry))) ⌝ }
+    ensures { λ r. ⌜ r ≡ cond marked (Act.Halted Halt.MarkedOperand) (loadAct w at d (flags tf cy) c (now (m .entry)) (bits (now (mk .entry)))) ⌝ }
 {
     if word::is_inside(w, m, at) {
         let e = cpu::loaded(d, word::load(w, m, at), c);
-        let t = marks::mark_reg(marks::is_marked(w, mk, at), tf, cy);
+        let t = marks::mark_reg(marks::memory::is_marked(w, mk, at), tf, cy);
         return stop_if(marked, Act::Does(e, t, Reach::Reads(w, at)));
     }
     halt_outside(marked)
@@ -92,7 +93,7 @@ fn store_at(marked: bool, w: Width, at: ByteAddr, tf: bool, cy: bool, c: Control
 }
 
 fn load_pc(d: u32, n: u32, tf: bool, cy: bool, c: Control, m: &[u8], mk: &[u8]) -> Act
-    ensures { λ r. ⌜ r ≡ loadAct Width.Word (dataAddress Width.Word (c .pc) n) d (flags tf cy) c (now (m .entry)) (now (mk .entry)) ⌝ }
+    ensures { λ r. ⌜ r ≡ loadAct Width.Word (dataAddress Width.Word (c .pc) n) d (flags tf cy) c (now (m .entry)) (bits (now (mk .entry))) ⌝ }
 {
     let at = cpu::data_address(Width::Word, c.pc, n);
     load_at(false, Width::Word, at, d, tf, cy, c, m, mk)
@@ -110,7 +111,7 @@ fn load_on(
     m: &[u8],
     mk: &[u8],
 ) -> Act
-    ensures { λ r. ⌜ r ≡ cond mv (Act.Halted Halt.MarkedOperand) (loadAct w (dataAddress w v n) d (flags tf cy) c (now (m .entry)) (now (mk .entry))) ⌝ }
+    ensures { λ r. ⌜ r ≡ cond mv (Act.Halted Halt.MarkedOperand) (loadAct w (dataAddress w v n) d (flags tf cy) c (now (m .entry)) (bits (now (mk .entry)))) ⌝ }
 {
     let at = cpu::data_address(w, v, n);
     load_at(mv, w, at, d, tf, cy, c, m, mk)
@@ -188,7 +189,7 @@ pub fn act_on(
     m: &[u8],
     mk: &[u8],
 ) -> Act
-    ensures { λ r. ⌜ r ≡ actOf i (val u mu) (val v mv) (flags tf cy) c (now (m .entry)) (now (mk .entry)) ⌝ }
+    ensures { λ r. ⌜ r ≡ actOf i (val u mu) (val v mv) (flags tf cy) c (now (m .entry)) (bits (now (mk .entry))) ⌝ }
 {
     match i {
         Instr::Alu(op, d, _) => alu_on(op, d, u, mu, v, mv, tf, cy, c),

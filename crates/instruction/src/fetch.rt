@@ -1,6 +1,7 @@
 // The fetch of an instruction: its first half, and the rest by the kind that this half says.
 ghost use mathlib.Core.Path.{_≡_};
 ghost use Prim.Native.Nat.{ℕ, _+_, _/_, _%_};
+ghost use Rattle.marks.specs.Memory.{bits};
 ghost use Rattle.instruction.specs.Fetch.{halfAt, fetchOf};
 ghost use Rattle.instruction.specs.Parts.{halfOf, firstHalf, isLongKind, secondHalf, decodedTo, restBy};
 use crate::Fetched;
@@ -18,10 +19,10 @@ fn half_at(m: &[u8], at: ByteAddr) -> u16
 }
 
 fn read_half(at: ByteAddr, m: &[u8], mk: &[u8]) -> Half
-    ensures { λ r. ⌜ r ≡ halfOf at (now (m .entry)) (now (mk .entry)) ⌝ }
+    ensures { λ r. ⌜ r ≡ halfOf at (now (m .entry)) (bits (now (mk .entry))) ⌝ }
 {
     if word::is_inside(Width::Half, m, at) {
-        if marks::is_marked(Width::Half, mk, at) {
+        if marks::memory::is_marked(Width::Half, mk, at) {
             return Half::Halted(Halt::FetchMarked);
         }
         return Half::Bits(half_at(m, at));
@@ -31,7 +32,7 @@ fn read_half(at: ByteAddr, m: &[u8], mk: &[u8]) -> Half
 
 // The first half, or why it cannot be read; `rest_at` goes on from it.
 pub fn first_half(at: ByteAddr, m: &[u8], mk: &[u8]) -> Half
-    ensures { λ r. ⌜ r ≡ firstHalf at (now (m .entry)) (now (mk .entry)) ⌝ }
+    ensures { λ r. ⌜ r ≡ firstHalf at (now (m .entry)) (bits (now (mk .entry))) ⌝ }
 {
     if word::is_odd(at) {
         return Half::Halted(Halt::NoInstruction);
@@ -67,7 +68,7 @@ fn is_long(d: Kind) -> bool
 
 // The second half of a long jump, 0 for any other kind. One place reads operands, so that the compiler lays it into the loop.
 fn second_half(d: Kind, at: ByteAddr, m: &[u8], mk: &[u8]) -> Half
-    ensures { λ r. ⌜ r ≡ secondHalf d at (now (m .entry)) (now (mk .entry)) ⌝ }
+    ensures { λ r. ⌜ r ≡ secondHalf d at (now (m .entry)) (bits (now (mk .entry))) ⌝ }
 {
     if is_long(d) {
         return read_half(at, m, mk);
@@ -86,7 +87,7 @@ fn decoded(d: Decoded) -> Fetched
 }
 
 pub fn rest_at(d: Kind, first: u16, at: ByteAddr, m: &[u8], mk: &[u8]) -> Fetched
-    ensures { λ r. ⌜ r ≡ restBy d first at (now (m .entry)) (now (mk .entry)) ⌝ }
+    ensures { λ r. ⌜ r ≡ restBy d first at (now (m .entry)) (bits (now (mk .entry))) ⌝ }
 {
     let s = second_half(d, word::byte_sum(at, 2), m, mk);
     match s {
@@ -97,7 +98,7 @@ pub fn rest_at(d: Kind, first: u16, at: ByteAddr, m: &[u8], mk: &[u8]) -> Fetche
 
 // The whole fetch.
 pub fn fetch(at: ByteAddr, m: &[u8], mk: &[u8]) -> Fetched
-    ensures { λ r. ⌜ r ≡ fetchOf at (now (m .entry)) (now (mk .entry)) ⌝ }
+    ensures { λ r. ⌜ r ≡ fetchOf at (now (m .entry)) (bits (now (mk .entry))) ⌝ }
 {
     let h = first_half(at, m, mk);
     match h {

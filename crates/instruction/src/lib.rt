@@ -13,7 +13,7 @@ use word::Width;
 pub enum Reply {
     MemoryLength,
     MarkLength,
-    MarkByte,
+    MarkPastEnd,
     Form,
     TapeLength,
     TapeByte,
@@ -64,7 +64,7 @@ pub fn number(r: Reply) -> u32
     match r {
         Reply::MemoryLength => 1,
         Reply::MarkLength => 2,
-        Reply::MarkByte => 3,
+        Reply::MarkPastEnd => 3,
         Reply::Form => 4,
         Reply::TapeLength => 5,
         Reply::TapeByte => 6,

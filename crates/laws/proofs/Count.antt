@@ -16,6 +16,7 @@ use Rattle.cpu.specs.Cycles.{entryCost}
 use Rattle.cpu.specs.Exec.{onward, goTo, linked, jump, branch, shortJump, longJump, carried, accepted, timerWritten, written, leave, makes, exec}
 use Rattle.cpu.specs.declared.Control.{Control}
 use Rattle.cpu.specs.declared.Entry.{Entry}
+use Rattle.marks.specs.Memory.{Marks}
 use Rattle.machine.specs.declared.State.{State}
 use Rattle.machine.specs.declared.Done.{Done}
 use Rattle.machine.specs.declared.Line.{Line}
@@ -109,7 +110,7 @@ passes : (te : Bool) (n : ℕ) (e : Entry) (c u : Control) → c .cycles ≡ u .
 unfolding passed withCycles
 passes te n e c u p = ap (λ (x : ℕ). (x + n) % 2 ^ 32) (entry-counts e c ∙ p)
 
-pub counts : {t : ℕ} {s : State} {m k : List ℕ} {d : Done} {x : Line} (p : Shows t s m k d x) → d .control .cycles ≡ (s .control .cycles + costIn p) % 2 ^ 32
+pub counts : {t : ℕ} {s : State} {m : List ℕ} {k : Marks} {d : Done} {x : Line} (p : Shows t s m k d x) → d .control .cycles ≡ (s .control .cycles + costIn p) % 2 ^ 32
 unfolding onward withPc
 counts {s = s} {x = x} (by-choice c a e) = ap (λ (u : Control). u .cycles) e ∙ passes _ (entryCost (x .entry)) (x .entry) (s .control) (s .control) refl
 counts {s = s} {m = m} {x = x} (by-instruction i c f o a e) =

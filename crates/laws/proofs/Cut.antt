@@ -7,6 +7,7 @@ use mathlib.Core.List.{List}
 use native.Mathlib.Omega.{arith}
 use lib.Dec.{eqb}
 use lib.ListN.{getD}
+use Rattle.marks.specs.Memory.{Marks}
 use Rattle.machine.specs.Step.{Stepped, stopped, completed, stepOf, after}
 use Rattle.machine.specs.Run.{Final, goOn, stepsOf}
 use Rattle.machine.specs.declared.State.{State}
@@ -21,13 +22,13 @@ not-ten no-instruction = refl
 not-ten marked-operand = refl
 
 -- the step that stops, and the step that goes on
-resume-on : (b : ℕ) (t : List ℕ) (more rest : State → List ℕ → List ℕ → Final) (i : ℕ) (s : State) (m k : List ℕ) (x : Stepped) → StepStops x
-    → ((u : State) (l j : List ℕ) → more u l j ≡ resume b t (rest u l j)) → goOn more i s m k x ≡ resume b t (goOn rest i s m k x)
+resume-on : (b : ℕ) (t : List ℕ) (more rest : State → List ℕ → Marks → Final) (i : ℕ) (s : State) (m : List ℕ) (k : Marks) (x : Stepped) → StepStops x
+    → ((u : State) (l : List ℕ) (j : Marks) → more u l j ≡ resume b t (rest u l j)) → goOn more i s m k x ≡ resume b t (goOn rest i s m k x)
 unfolding goOn resume
 resume-on b t more rest i s m k (stopped r) p h = rw (not-ten p)
 resume-on b t more rest i s m k (completed d l j x) p h = h (after d s) l j
 
-pub cut : (a b i : ℕ) (t : List ℕ) (s : State) (m k : List ℕ) → stepsOf (a + b) i t s m k ≡ resume b t (stepsOf a i t s m k)
+pub cut : (a b i : ℕ) (t : List ℕ) (s : State) (m : List ℕ) (k : Marks) → stepsOf (a + b) i t s m k ≡ resume b t (stepsOf a i t s m k)
 unfolding stepsOf resume
 cut zero b i t s m k =
     let e : 0 + b ≡ b = omega arith in

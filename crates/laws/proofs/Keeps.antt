@@ -26,6 +26,7 @@ use Rattle.cpu.specs.declared.Control.{Control}
 use Rattle.cpu.specs.declared.Effect.{Effect}
 use Rattle.cpu.specs.declared.Entry.{Entry}
 use Rattle.marks.specs.Marks.{taint, blocked}
+use Rattle.marks.specs.Memory.{Marks}
 use Rattle.marks.specs.declared.Flags.{Flags}
 use Rattle.marks.specs.declared.Taint.{Taint}
 use Rattle.instruction.specs.Fetch.{fetchOf}
@@ -277,14 +278,14 @@ enters-kept : (e : Entry) (f : Flags) (c : Control) → Form c → Form (entryDo
 unfolding entryDone
 enters-kept e f c g = passes _ (entries e c g) (on (c .psw) 4) (entryCost e)
 
-halt-keeps : (h : Halt) (a : Data) (f : Flags) (c : Control) (m k : List ℕ) → Form c → Kept (haltStep h a f c m k)
+halt-keeps : (h : Halt) (a : Data) (f : Flags) (c : Control) (m : List ℕ) (k : Marks) → Form c → Kept (haltStep h a f c m k)
 halt-keeps Halt.FetchOutside a f c m k g = enters-kept Entry.FetchError f c g
 halt-keeps Halt.FetchMarked a f c m k g = tt
 halt-keeps Halt.NoInstruction a f c m k g = tt
 halt-keeps Halt.MarkedOperand a f c m k g = tt
 halt-keeps Halt.DataOutside a f c m k g = enters-kept Entry.DataError f (onward 2 c) (onwards c g 2 refl)
 
-acted : (t u : Bool) (p q : Halt) (e : Effect) (n : Taint) (r : Reach) (a : Data) (x : Val) (f : Flags) (c : Control) (m k : List ℕ) → Form c → Form (e .control)
+acted : (t u : Bool) (p q : Halt) (e : Effect) (n : Taint) (r : Reach) (a : Data) (x : Val) (f : Flags) (c : Control) (m : List ℕ) (k : Marks) → Form c → Form (e .control)
     → Kept (actStep (cond t (Act.Halted p) (cond u (Act.Halted q) (Act.Does e n r))) a x f c m k)
 unfolding doneOf
 acted true u p q e n r a x f c m k i g = halt-keeps p a f c m k i
@@ -293,7 +294,7 @@ acted false false p q e n r a x f c m k i g =
     passes (entered (entryBy r (e .control)) (e .control)) (entries (entryBy r (e .control)) (e .control) g) (on (c .psw) 4 && not (e .wrote))
     (e .cost + entryCost (entryBy r (e .control)))
 
-acts : (i : Instr) (a : Data) (x y : Val) (f : Flags) (c : Control) (m k : List ℕ) → Form c → Kept (actStep (actOf i x y f c m k) a x f c m k)
+acts : (i : Instr) (a : Data) (x y : Val) (f : Flags) (c : Control) (m : List ℕ) (k : Marks) → Form c → Kept (actStep (actOf i x y f c m k) a x f c m k)
 unfolding actOf
 acts i a x y f c m k g =
     let r : Reach = reachOf i (y .value) c in
@@ -310,21 +311,21 @@ acts i a x y f c m k g =
     g
     (executes c g i (x .value) (y .value) (loadedFrom r m))
 
-fetches : (x : Fetched) (s : State) (m k : List ℕ) → Form (s .control) → Kept (fetchStep x s m k)
+fetches : (x : Fetched) (s : State) (m : List ℕ) (k : Marks) → Form (s .control) → Kept (fetchStep x s m k)
 unfolding instrStep
 fetches (Fetched.Halted h) s m k f = halt-keeps h Data.Nowhere (s .flags) (s .control) m k f
 fetches (Fetched.Run i) s m k f = acts i _ (valueAt s (sourcesOf i .first)) (valueAt s (sourcesOf i .second)) (s .flags) (s .control) m k f
 
-event-keeps : (v : Event) (s : State) (m k : List ℕ) → Form (s .control) → Kept (eventStep v s m k)
+event-keeps : (v : Event) (s : State) (m : List ℕ) (k : Marks) → Form (s .control) → Kept (eventStep v s m k)
 event-keeps (Event.Enter e) s m k f = enters-kept e (s .flags) (s .control) f
 event-keeps Event.Instruction s m k f = fetches (fetchOf (pcOf (s .control)) m k) s m k f
 
-step-keeps : (t : ℕ) (s : State) (m k : List ℕ) → Form (s .control) → Kept (stepOf t s m k)
+step-keeps : (t : ℕ) (s : State) (m : List ℕ) (k : Marks) → Form (s .control) → Kept (stepOf t s m k)
 unfolding stepOf
 step-keeps t s m k f = event-keeps (chosen t (s .control)) s m k f
 
 -- so every run does
-pub run-keeps : (b : ℕ) (t : List ℕ) (s : State) (m k : List ℕ) → Form (s .control) → Form (runOf b t s m k .ended .state .control)
+pub run-keeps : (b : ℕ) (t : List ℕ) (s : State) (m : List ℕ) (k : Marks) → Form (s .control) → Form (runOf b t s m k .ended .state .control)
 unfolding after
 run-keeps b t s m k f = run-every (λ (u : State). Form (u .control)) (λ i u l j g. go u (stepOf i u l j) (step-keeps i u l j g)) b t s m k f
   where

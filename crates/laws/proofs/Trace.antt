@@ -24,7 +24,7 @@ use Rattle.cpu.specs.Cycles.{costOf, entryCost}
 use Rattle.cpu.specs.declared.Control.{Control}
 use Rattle.cpu.specs.declared.Entry.{Entry}
 use Rattle.marks.specs.Marks.{taint, blocked}
-use Rattle.marks.specs.Memory.{markedAt}
+use Rattle.marks.specs.Memory.{Marks, markedAt}
 use Rattle.marks.specs.declared.Taint.{Taint}
 use Rattle.instruction.specs.Fetch.{afterHalf, guarded, found, fetchOf}
 use Rattle.instruction.specs.Act.{Val, outside, loadedMark, actOf}
@@ -73,7 +73,7 @@ FetchHalts (Fetched.Halted Halt.MarkedOperand) = Unit {0}
 FetchHalts (Fetched.Halted Halt.DataOutside) = ⊥
 FetchHalts (Fetched.Run i) = Unit {0}
 
-guarded-halts : (a : ByteAddr) (m k : List ℕ) (x : Fetched) → FetchHalts x → FetchHalts (guarded a m k x)
+guarded-halts : (a : ByteAddr) (m : List ℕ) (k : Marks) (x : Fetched) → FetchHalts x → FetchHalts (guarded a m k x)
 guarded-halts a m k x p = go (not (inside m a 2)) (markedAt Width.Half k a)
   where
     go : (t u : Bool) → FetchHalts (cond t (Fetched.Halted Halt.FetchOutside) (cond u (Fetched.Halted Halt.FetchMarked) x))
@@ -81,12 +81,12 @@ guarded-halts a m k x p = go (not (inside m a 2)) (markedAt Width.Half k a)
     go false true = tt
     go false false = p
 
-found-halts : (d : Decoded) (b : ByteAddr) (m k : List ℕ) → FetchHalts (found d b m k)
+found-halts : (d : Decoded) (b : ByteAddr) (m : List ℕ) (k : Marks) → FetchHalts (found d b m k)
 found-halts (Decoded.Short i) b m k = tt
 found-halts (Decoded.Long i) b m k = guarded-halts b m k (Fetched.Run i) tt
 found-halts Decoded.Nothing b m k = tt
 
-fetch-halts : (a : ByteAddr) (m k : List ℕ) → FetchHalts (fetchOf a m k)
+fetch-halts : (a : ByteAddr) (m : List ℕ) (k : Marks) → FetchHalts (fetchOf a m k)
 unfolding fetchOf
 fetch-halts a m k = go (eqb (a .0 % 2) 1)
   where
@@ -98,7 +98,7 @@ fetch-halts a m k = go (eqb (a .0 % 2) 1)
     go false = guarded-halts a m k x (found-halts (decodedAt m a) (afterHalf a) m k)
 
 -- what the line of a completed step says: its program counter, its entry, and where memory changed
-module _ (t : ℕ) (s : State) (m k : List ℕ) where
+module _ (t : ℕ) (s : State) (m : List ℕ) (k : Marks) where
   abbrev pub Told : Stepped → Type 0
   Told (stopped r) = Unit {0}
   Told (completed d l j x) = (x .pc ≡ pcOf (s .control)) × Shows t s m k d x × ChangedAt (x .address) m l
@@ -240,20 +240,20 @@ return-bits c =
 -- ---- the lines of a run
 
 -- what the steps counted, by the step that comes first
-counts-on : (rest : State → List ℕ → List ℕ → Final) (lines : State → List ℕ → List ℕ → List Shown) (n : ℕ) (s : State) (m k : List ℕ) (x : Stepped)
-    → ((u : State) (l j : List ℕ) → rest u l j .ended .steps ≡ n + 1 + length (lines u l j))
+counts-on : (rest : State → List ℕ → Marks → Final) (lines : State → List ℕ → Marks → List Shown) (n : ℕ) (s : State) (m : List ℕ) (k : Marks) (x : Stepped)
+    → ((u : State) (l : List ℕ) (j : Marks) → rest u l j .ended .steps ≡ n + 1 + length (lines u l j))
     → goOn rest n s m k x .ended .steps ≡ n + length (traceOn lines s x)
 unfolding goOn traceOn
 counts-on rest lines n s m k (stopped r) h = omega arith
 counts-on rest lines n s m k (completed d l j y) h = h (after d s) l j ∙ omega arith
 
-counted : (b n : ℕ) (t : List ℕ) (s : State) (m k : List ℕ) → stepsOf b n t s m k .ended .steps ≡ n + length (traceOf b n t s m k)
+counted : (b n : ℕ) (t : List ℕ) (s : State) (m : List ℕ) (k : Marks) → stepsOf b n t s m k .ended .steps ≡ n + length (traceOf b n t s m k)
 unfolding stepsOf traceOf
 counted zero n t s m k = omega arith
 counted (suc b) n t s m k =
     counts-on (stepsOf b (n + 1) t) (traceOf b (n + 1) t) n s m k (stepOf (getD t n 0) s m k) (λ u l j. counted b (n + 1) t u l j)
 
-pub run-counted : (b : ℕ) (t : List ℕ) (s : State) (m k : List ℕ) → length (shownOf b t s m k) ≡ runOf b t s m k .ended .steps
+pub run-counted : (b : ℕ) (t : List ℕ) (s : State) (m : List ℕ) (k : Marks) → length (shownOf b t s m k) ≡ runOf b t s m k .ended .steps
 unfolding runOf shownOf
 run-counted b t s m k = go (judge b t s m k)
   where
@@ -262,14 +262,14 @@ run-counted b t s m k = go (judge b t s m k)
     go Judged.Good = omega (arith, counted b 0 t s m k)
 
 -- line i is the one that the step from what i steps left shows; z is any line
-module _ (lines : State → List ℕ → List ℕ → List Shown) (s : State) (z : Shown) where
+module _ (lines : State → List ℕ → Marks → List Shown) (s : State) (z : Shown) where
   first-line : (x : Stepped) → 0 < length (traceOn lines s x) → seenIn x ≡ Seen.Step (getD (traceOn lines s x) 0 z .line)
   unfolding traceOn
   first-line (stopped r) h = absurd (not-suc-le-zero h)
   first-line (completed d l j y) h = refl
 
-  later-line : (rest : State → List ℕ → List ℕ → Final) (tape i n : ℕ) (m k : List ℕ) (x : Stepped) → suc i < length (traceOn lines s x)
-      → ((u : State) (l j : List ℕ) → i < length (lines u l j)
+  later-line : (rest : State → List ℕ → Marks → Final) (tape i n : ℕ) (m : List ℕ) (k : Marks) (x : Stepped) → suc i < length (traceOn lines s x)
+      → ((u : State) (l : List ℕ) (j : Marks) → i < length (lines u l j)
       → seenIn (stepOf tape (rest u l j .ended .state) (rest u l j .mem) (rest u l j .marks)) ≡ Seen.Step (getD (lines u l j) i z .line))
       → seenIn (stepOf tape (goOn rest n s m k x .ended .state) (goOn rest n s m k x .mem) (goOn rest n s m k x .marks))
       ≡ Seen.Step (getD (traceOn lines s x) (suc i) z .line)
@@ -277,7 +277,7 @@ module _ (lines : State → List ℕ → List ℕ → List Shown) (s : State) (z
   later-line rest tape i n m k (stopped r) h f = absurd (not-suc-le-zero h)
   later-line rest tape i n m k (completed d l j y) h f = f (after d s) l j (omega arith)
 
-pub nth-line : (b i n : ℕ) (t : List ℕ) (s : State) (m k : List ℕ) (z : Shown) → i < length (traceOf b n t s m k)
+pub nth-line : (b i n : ℕ) (t : List ℕ) (s : State) (m : List ℕ) (k : Marks) (z : Shown) → i < length (traceOf b n t s m k)
     → seenIn (stepOf (getD t (n + i) 0) (stepsOf i n t s m k .ended .state) (stepsOf i n t s m k .mem) (stepsOf i n t s m k .marks))
     ≡ Seen.Step (getD (traceOf b n t s m k) i z .line)
 unfolding stepsOf traceOf

@@ -17,6 +17,7 @@ use Rattle.cpu.specs.Exec.{onward, exec, sourcesOf}
 use Rattle.cpu.specs.declared.Control.{Control}
 use Rattle.cpu.specs.declared.Effect.{Effect}
 use Rattle.cpu.specs.declared.Entry.{Entry}
+use Rattle.marks.specs.Memory.{Marks}
 use Rattle.instruction.specs.Fetch.{fetchOf}
 use Rattle.instruction.specs.Act.{reachOf, outside, loadedFrom}
 use Rattle.instruction.specs.declared.Halt.{Halt}
@@ -40,7 +41,7 @@ effectIn i s m = exec i (valueAt s (sourcesOf i .first) .value) (valueAt s (sour
 -- A completed step made d from state s, memory m and marks k on, with the tape's byte t, and shows line x. The entry that the line names is the one that was
 -- made: on the control part before the step if an entry was chosen or the fetch was a bus error, on what the instruction left if one was done, and at the next
 -- instruction if its data were outside memory; then the step's cost went by, and the timer fell or not.
-pub data Shows (t : ℕ) (s : State) (m k : List ℕ) (d : Done) (x : Line) : Type 0 where
+pub data Shows (t : ℕ) (s : State) (m : List ℕ) (k : Marks) (d : Done) (x : Line) : Type 0 where
   by-choice : chosen t (s .control) ≡ Event.Enter (x .entry) → x .address ≡ Data.Nowhere
       → d .control ≡ passed (on (s .control .psw) 4) (entryCost (x .entry)) (entered (x .entry) (s .control))
       → Shows t s m k d x
@@ -59,7 +60,7 @@ pub data Shows (t : ℕ) (s : State) (m k : List ℕ) (d : Done) (x : Line) : Ty
       → Shows t s m k d x
 
 -- what that step cost in cycles (document 02, ticket 6)
-abbrev pub costIn : {t : ℕ} {s : State} {m k : List ℕ} {d : Done} {x : Line} → Shows t s m k d x → ℕ
+abbrev pub costIn : {t : ℕ} {s : State} {m : List ℕ} {k : Marks} {d : Done} {x : Line} → Shows t s m k d x → ℕ
 costIn {x = x} (by-choice c a e) = entryCost (x .entry)
 costIn {s = s} {m = m} {x = x} (by-instruction i c f o a e) = effectIn i s m .cost + entryCost (x .entry)
 costIn (by-fetch c f n a e) = 4

@@ -26,7 +26,7 @@ use Rattle.cpu.specs.declared.Control.{Control}
 use Rattle.cpu.specs.declared.Effect.{Effect}
 use Rattle.cpu.specs.declared.Entry.{Entry}
 use Rattle.marks.specs.Marks.{taint, blocked}
-use Rattle.marks.specs.Memory.{badMark}
+use Rattle.marks.specs.Memory.{Marks, badRoom, badMark}
 use Rattle.marks.specs.declared.Flags.{Flags}
 use Rattle.marks.specs.declared.Taint.{Taint}
 use Rattle.instruction.specs.Fetch.{afterHalf}
@@ -92,24 +92,24 @@ calm t c p e = quiet t c (not-true (c .pending) (and-right (eqb (fieldOf (c .hwd
 -- ---- a step by its parts
 
 -- what an instruction may store does not matter where it stores nothing
-abbrev Alike : Reach → Val → Val → List ℕ → List ℕ → Type 0
+abbrev Alike : Reach → Val → Val → List ℕ → Marks → Type 0
 Alike r x y m k = (storedTo r (x .value) m ≡ storedTo r (y .value) m) × (markedTo r (x .mark) k ≡ markedTo r (y .mark) k)
 
-unstored : (t u : Bool) (e : Effect) (n : Taint) (r : Reach) (a : Data) (x y : Val) (f : Flags) (c : Control) (m k : List ℕ) → Alike r x y m k
+unstored : (t u : Bool) (e : Effect) (n : Taint) (r : Reach) (a : Data) (x y : Val) (f : Flags) (c : Control) (m : List ℕ) (k : Marks) → Alike r x y m k
     → actStep (cond t (Act.Halted Halt.MarkedOperand) (cond u (Act.Halted Halt.DataOutside) (Act.Does e n r))) a x f c m k
     ≡ actStep (cond t (Act.Halted Halt.MarkedOperand) (cond u (Act.Halted Halt.DataOutside) (Act.Does e n r))) a y f c m k
 unstored true u e n r a x y f c m k h = refl
 unstored false true e n r a x y f c m k h = refl
-unstored false false e n r a x y f c m k h = ap₂ (λ (a b : List ℕ). completed (doneOf c e n r) a b (lineOf c e r)) (h .0) (h .1)
+unstored false false e n r a x y f c m k h = ap₂ (λ (a : List ℕ) (b : Marks). completed (doneOf c e n r) a b (lineOf c e r)) (h .0) (h .1)
 
-act-unstored : (i : Instr) (u v : Val) (a : Data) (x y : Val) (f : Flags) (c : Control) (m k : List ℕ) → Alike (reachOf i (v .value) c) x y m k
+act-unstored : (i : Instr) (u v : Val) (a : Data) (x y : Val) (f : Flags) (c : Control) (m : List ℕ) (k : Marks) → Alike (reachOf i (v .value) c) x y m k
     → actStep (actOf i u v f c m k) a x f c m k ≡ actStep (actOf i u v f c m k) a y f c m k
 unfolding actOf
 act-unstored i u v a x y f c m k h =
     let r : Reach = reachOf i (v .value) c in
     unstored (blocked i (v .mark) f) (outside r m) (exec i (u .value) (v .value) (loadedFrom r m) c) (taint i (u .mark) (v .mark) (loadedMark r k) (tf c) f) r a x y f c m k h
 
-module _ (s : State) (m k : List ℕ) where
+module _ (s : State) (m : List ℕ) (k : Marks) where
   -- The registers that the last two digits of a half h name serve every instruction: where it reads one, its number stands there, and where it reads none,
   -- what it does is the same.
   abbrev Served : Fetched → ℕ → Type 0
@@ -183,17 +183,17 @@ module _ (s : State) (m k : List ℕ) where
 
 -- ---- one more step of a run
 
-pub steps-all : (b : ℕ) (t : List ℕ) (s : State) (m k : List ℕ) → stepsOf (b - 0) 0 t s m k ≡ stepsOf b 0 t s m k
+pub steps-all : (b : ℕ) (t : List ℕ) (s : State) (m : List ℕ) (k : Marks) → stepsOf (b - 0) 0 t s m k ≡ stepsOf b 0 t s m k
 steps-all b t s m k = ap (λ (x : ℕ). stepsOf x 0 t s m k) (omega arith)
 
-pub steps-end : (b n : ℕ) (t : List ℕ) (s : State) (m k : List ℕ) → b ≤ n → stepsOf (b - n) n t s m k ≡ final Reply.Budget n s m k
+pub steps-end : (b n : ℕ) (t : List ℕ) (s : State) (m : List ℕ) (k : Marks) → b ≤ n → stepsOf (b - n) n t s m k ≡ final Reply.Budget n s m k
 unfolding stepsOf
 steps-end b n t s m k h =
     let e : b - n ≡ 0 = omega arith in
     rw e
 
 -- by what the step answers, and the memory and the marks after it
-module _ (b n : ℕ) (t : List ℕ) (s : State) (m k : List ℕ) (l : n < b) where
+module _ (b n : ℕ) (t : List ℕ) (s : State) (m : List ℕ) (k : Marks) (l : n < b) where
   by-answer : (x : Stepped) → stepOf (getD t n 0) s m k ≡ x → stepsOf (b - n) n t s m k ≡ goOn (stepsOf (b - (n + 1)) (n + 1) t) n s m k x
   unfolding stepsOf
   by-answer x o =
@@ -218,14 +218,14 @@ module _ (b n : ℕ) (t : List ℕ) (s : State) (m k : List ℕ) (l : n < b) whe
 entered-to : Control → Flags → Done
 entered-to e f = record { control = e; flags = f; reg = noReg; value = 0; mark = false }
 
-halt-stops : (h : Halt) (a : Data) (f : Flags) (c : Control) (m k : List ℕ) (r : Reply) → haltedTo h c ≡ Halted.Stop r → haltStep h a f c m k ≡ stopped r
+halt-stops : (h : Halt) (a : Data) (f : Flags) (c : Control) (m : List ℕ) (k : Marks) (r : Reply) → haltedTo h c ≡ Halted.Stop r → haltStep h a f c m k ≡ stopped r
 halt-stops Halt.FetchOutside a f c m k r e = let z : _≡_ {A = ℕ} 0 1 = cc in absurd (omega arith)
 halt-stops Halt.FetchMarked a f c m k r e = let q : Reply.FetchMarked ≡ r = cc in ap stopped q
 halt-stops Halt.NoInstruction a f c m k r e = let q : Reply.NoInstruction ≡ r = cc in ap stopped q
 halt-stops Halt.MarkedOperand a f c m k r e = let q : Reply.MarkedOperand ≡ r = cc in ap stopped q
 halt-stops Halt.DataOutside a f c m k r e = let z : _≡_ {A = ℕ} 0 1 = cc in absurd (omega arith)
 
-halt-enters : (h : Halt) (a : Data) (f : Flags) (c : Control) (m k : List ℕ) (n : Control) → haltedTo h c ≡ Halted.Enter n
+halt-enters : (h : Halt) (a : Data) (f : Flags) (c : Control) (m : List ℕ) (k : Marks) (n : Control) → haltedTo h c ≡ Halted.Enter n
     → (outIn (haltStep h a f c m k) ≡ goes (entered-to n f)) × (memIn m (haltStep h a f c m k) ≡ m) × (marksIn k (haltStep h a f c m k) ≡ k)
 unfolding entryDone entered-to onward withPc
 halt-enters Halt.FetchOutside a f c m k n e =
@@ -237,18 +237,18 @@ halt-enters Halt.DataOutside a f c m k n e =
     let q : passed (on (c .psw) 4) (entryCost Entry.DataError) (entered Entry.DataError (onward 2 c)) ≡ n = cc in (ap (λ (u : Control). goes (entered-to u f)) q, refl, refl)
 
 -- an instruction by what it answers
-act-halts : (q : Act) (a : Data) (x : Val) (f : Flags) (c : Control) (m k : List ℕ) (h : Halt) → Out.Halted h ≡ actOut q c
+act-halts : (q : Act) (a : Data) (x : Val) (f : Flags) (c : Control) (m : List ℕ) (k : Marks) (h : Halt) → Out.Halted h ≡ actOut q c
     → (actStep q a x f c m k ≡ haltStep h a f c m k) × (actMem q x m ≡ m) × (actMarks q x k ≡ k)
 act-halts (Act.Halted j) a x f c m k h e = let q : j ≡ h = cc in (ap (λ (i : Halt). haltStep i a f c m k) q, refl, refl)
 act-halts (Act.Does u t r) a x f c m k h e = let z : _≡_ {A = ℕ} 0 1 = cc in absurd (omega arith)
 
-act-goes : (q : Act) (a : Data) (x : Val) (f : Flags) (c : Control) (m k : List ℕ) (d : Done) → Out.Go d ≡ actOut q c
+act-goes : (q : Act) (a : Data) (x : Val) (f : Flags) (c : Control) (m : List ℕ) (k : Marks) (d : Done) → Out.Go d ≡ actOut q c
     → (outIn (actStep q a x f c m k) ≡ goes d) × (memIn m (actStep q a x f c m k) ≡ actMem q x m) × (marksIn k (actStep q a x f c m k) ≡ actMarks q x k)
 act-goes (Act.Halted j) a x f c m k d e = let z : _≡_ {A = ℕ} 0 1 = cc in absurd (omega arith)
 act-goes (Act.Does u t r) a x f c m k d e = let q : doneOf c u t r ≡ d = cc in (ap goes q, refl, refl)
 
 -- the same of a state in its parts, as the loop has them, by the step's start g
-module _ (b n : ℕ) (t : List ℕ) (regs : List ℕ) (marks : List Bool) (f : Flags) (c : Control) (m k : List ℕ) (l : n < b) (g : Begun)
+module _ (b n : ℕ) (t : List ℕ) (regs : List ℕ) (marks : List Bool) (f : Flags) (c : Control) (m : List ℕ) (k : Marks) (l : n < b) (g : Begun)
     (o : g ≡ begunOf (getD t n 0) c m k) where
   abbrev here : State
   here = stateOf regs marks f c
@@ -296,14 +296,14 @@ module _ (b n : ℕ) (t : List ℕ) (regs : List ℕ) (marks : List Bool) (f : F
     half-stops r e =
         (steps-stop b n t here m k l (stopped r) r (halves .0 ∙ halt-stops q _ f c m k r (sym e)) refl .0, halves .1, halves .2)
 
-    pub half-errs : (e : Control) → Halted.Enter e ≡ haltedTo q c → length regs ≡ 16 → length marks ≡ 16 → (m′ k′ : List ℕ)
+    pub half-errs : (e : Control) → Halted.Enter e ≡ haltedTo q c → length regs ≡ 16 → length marks ≡ 16 → (m′ : List ℕ) (k′ : Marks)
         → m′ ≡ actMem (halved h) (valueAt here (nibC h)) m → k′ ≡ actMarks (halved h) (valueAt here (nibC h)) k
         → stepsOf (b - n) n t here m k ≡ stepsOf (b - (n + 1)) (n + 1) t (stateOf regs marks f e) m′ k′
     half-errs e i x y m′ k′ v w =
         enters-on e (haltStep q (fetchedData (halfFetched h c m k) (valueAt here (nibD h)) c) f c m k) (halves .0) x y (halt-enters q _ f c m k e (sym i))
         ∙ rw (v ∙ halves .1, w ∙ halves .2)
 
-  pub half-goes : (h : ℕ) → g ≡ Begun.Half h → (d : Done) → Out.Go d ≡ actOut (halved h) c → (rs : List ℕ) (ks : List Bool) (m′ k′ : List ℕ)
+  pub half-goes : (h : ℕ) → g ≡ Begun.Half h → (d : Done) → Out.Go d ≡ actOut (halved h) c → (rs : List ℕ) (ks : List Bool) (m′ : List ℕ) (k′ : Marks)
       → rs ≡ set regs (d .reg) (d .value) → ks ≡ set marks (d .reg) (d .mark)
       → m′ ≡ actMem (halved h) (valueAt here (nibC h)) m → k′ ≡ actMarks (halved h) (valueAt here (nibC h)) k
       → stepsOf (b - n) n t here m k ≡ stepsOf (b - (n + 1)) (n + 1) t (stateOf rs ks (d .flags) (d .control)) m′ k′
@@ -319,16 +319,16 @@ passes : (u : Bool) (r : Reply) (x : Judged) → cond u (Judged.Refused r) x ≡
 passes true r x e = let z : _≡_ {A = ℕ} 0 1 = cc in absurd (omega arith)
 passes false r x e = (refl, e)
 
-pub long-tape : (b : ℕ) (t : List ℕ) (s : State) (m k : List ℕ) → judge b t s m k ≡ Judged.Good → b ≤ length t
+pub long-tape : (b : ℕ) (t : List ℕ) (s : State) (m : List ℕ) (k : Marks) → judge b t s m k ≡ Judged.Good → b ≤ length t
 unfolding judge
 long-tape b t s m k e =
     let six : Judged = cond (anyAbove 63 (take b t)) (Judged.Refused Reply.TapeByte) Judged.Good in
     let five : Judged = cond (ltb (length t) b) (Judged.Refused Reply.TapeLength) six in
     let four : Judged = cond (outOfForm (s .control)) (Judged.Refused Reply.Form) five in
-    let three : Judged = cond (badMark k) (Judged.Refused Reply.MarkByte) four in
-    let two : Judged = cond (not (eqb (length k) (length m))) (Judged.Refused Reply.MarkLength) three in
+    let three : Judged = cond (badMark (length m) k) (Judged.Refused Reply.MarkPastEnd) four in
+    let two : Judged = cond (badRoom (length m) k) (Judged.Refused Reply.MarkLength) three in
     let b1 : two ≡ Judged.Good = passes (badLength (length m)) Reply.MemoryLength two e .1 in
-    let b2 : three ≡ Judged.Good = passes (not (eqb (length k) (length m))) Reply.MarkLength three b1 .1 in
-    let b3 : four ≡ Judged.Good = passes (badMark k) Reply.MarkByte four b2 .1 in
+    let b2 : three ≡ Judged.Good = passes (badRoom (length m) k) Reply.MarkLength three b1 .1 in
+    let b3 : four ≡ Judged.Good = passes (badMark (length m) k) Reply.MarkPastEnd four b2 .1 in
     let b4 : five ≡ Judged.Good = passes (outOfForm (s .control)) Reply.Form five b3 .1 in
     ltb-false (length t) b (passes (ltb (length t) b) Reply.TapeLength six b4 .0)

@@ -12,6 +12,7 @@ use Rattle.cpu.specs.Exec.{onward}
 use Rattle.cpu.specs.declared.Control.{Control}
 use Rattle.cpu.specs.declared.Entry.{Entry}
 use Rattle.marks.specs.declared.Flags.{Flags}
+use Rattle.marks.specs.Memory.{Marks}
 use Rattle.instruction.specs.Act.{Val, reachOf, actOf}
 use Rattle.instruction.specs.Parts.{firstHalf, restBy}
 use Rattle.instruction.specs.declared.Reply.{Reply}
@@ -45,7 +46,7 @@ abbrev pub memIn : List ℕ → Stepped → List ℕ
 memIn m (stopped r) = m
 memIn m (completed d l j x) = l
 
-abbrev pub marksIn : List ℕ → Stepped → List ℕ
+abbrev pub marksIn : Marks → Stepped → Marks
 marksIn k (stopped r) = k
 marksIn k (completed d l j x) = j
 
@@ -67,11 +68,11 @@ abbrev pub begunHalf : Half → Begun
 begunHalf (Half.Halted h) = Begun.Halted h
 begunHalf (Half.Bits h) = Begun.Half h
 
-abbrev pub begunBy : Event → Control → List ℕ → List ℕ → Begun
+abbrev pub begunBy : Event → Control → List ℕ → Marks → Begun
 begunBy (Event.Enter e) c m k = Begun.Enter (passed (on (c .psw) 4) (entryCost e) (entered e c))
 begunBy Event.Instruction c m k = begunHalf (firstHalf (pcOf c) m k)
 
-unfoldable pub begunOf : ℕ → Control → List ℕ → List ℕ → Begun
+unfoldable pub begunOf : ℕ → Control → List ℕ → Marks → Begun
 begunOf t c m k = begunBy (chosen t c) c m k
 
 -- what an instruction answers, and what it makes of memory and marks; x is what it may store
@@ -83,12 +84,12 @@ abbrev pub actMem : Act → Val → List ℕ → List ℕ
 actMem (Act.Halted h) x m = m
 actMem (Act.Does e t r) x m = storedTo r (x .value) m
 
-abbrev pub actMarks : Act → Val → List ℕ → List ℕ
+abbrev pub actMarks : Act → Val → Marks → Marks
 actMarks (Act.Halted h) x k = k
 actMarks (Act.Does e t r) x k = markedTo r (x .mark) k
 
 -- what is fetched, done, and the data address that it reaches
-abbrev pub fetchedAct : Fetched → Val → Val → Flags → Control → List ℕ → List ℕ → Act
+abbrev pub fetchedAct : Fetched → Val → Val → Flags → Control → List ℕ → Marks → Act
 fetchedAct (Fetched.Halted h) x y f c m k = Act.Halted h
 fetchedAct (Fetched.Run i) x y f c m k = actOf i x y f c m k
 
@@ -97,11 +98,11 @@ fetchedData (Fetched.Halted h) y c = Data.Nowhere
 fetchedData (Fetched.Run i) y c = dataOf (reachOf i (y .value) c)
 
 -- h is the first half, x and y are the registers whose numbers stand in its bits 7:4 and 3:0
-abbrev pub halfFetched : ℕ → Control → List ℕ → List ℕ → Fetched
+abbrev pub halfFetched : ℕ → Control → List ℕ → Marks → Fetched
 halfFetched h c m k = restBy (kindOf (h / 256)) h (pcOf c) m k
 
-unfoldable pub halfAct : ℕ → Val → Val → Flags → Control → List ℕ → List ℕ → Act
+unfoldable pub halfAct : ℕ → Val → Val → Flags → Control → List ℕ → Marks → Act
 halfAct h x y f c m k = fetchedAct (halfFetched h c m k) x y f c m k
 
-unfoldable pub halfStep : ℕ → Val → Val → Flags → Control → List ℕ → List ℕ → Stepped
+unfoldable pub halfStep : ℕ → Val → Val → Flags → Control → List ℕ → Marks → Stepped
 halfStep h x y f c m k = actStep (halfAct h x y f c m k) (fetchedData (halfFetched h c m k) y c) x f c m k

@@ -15,7 +15,7 @@ use Rattle.cpu.specs.declared.Control.{Control}
 use Rattle.cpu.specs.declared.Effect.{Effect}
 use Rattle.cpu.specs.declared.Entry.{Entry}
 use Rattle.isa.specs.declared.Instr.{Instr}
-use Rattle.marks.specs.Memory.{markAll}
+use Rattle.marks.specs.Memory.{Marks, markAll}
 use Rattle.marks.specs.declared.Flags.{Flags}
 use Rattle.marks.specs.declared.Taint.{Taint}
 use Rattle.instruction.specs.Fetch.{fetchOf}
@@ -61,7 +61,7 @@ storedTo (Reach.Reads w a) v m = m
 storedTo (Reach.Writes w a) v m = storeOf w m a v
 storedTo (Reach.Raises n) v m = m
 
-abbrev pub markedTo : Reach → Bool → List ℕ → List ℕ
+abbrev pub markedTo : Reach → Bool → Marks → Marks
 markedTo Reach.Nowhere b k = k
 markedTo (Reach.Reads w a) b k = k
 markedTo (Reach.Writes w a) b k = markAll w k a b
@@ -86,7 +86,7 @@ dataOf (Reach.Raises n) = Data.Nowhere
 
 pub data Stepped : Type 0 where
   stopped : Reply → Stepped
-  completed : Done → List ℕ → List ℕ → Line → Stepped
+  completed : Done → List ℕ → Marks → Line → Stepped
 
 -- an entry, its cost and the timer's fall by it; it changes no register
 unfoldable pub entryDone : Entry → Flags → Control → Done
@@ -99,12 +99,12 @@ entryDone e f c =
       mark = false;
     }
 
-abbrev pub entryStep : Entry → Flags → Control → List ℕ → List ℕ → Stepped
+abbrev pub entryStep : Entry → Flags → Control → List ℕ → Marks → Stepped
 entryStep e f c m k = completed (entryDone e f c) m k (record { pc = pcOf c; entry = e; address = Data.Nowhere })
 
 -- What comes of an instruction that is not done, one line for each reason: a stop, or a bus error, which is an entry (document 02, ticket 5). "On a fetch, ..
 -- IPC is the instruction's own address; on data, .. IPC is the next instruction, and no register, byte or watchpoint hit changes". a is the data address
-abbrev pub haltStep : Halt → Data → Flags → Control → List ℕ → List ℕ → Stepped
+abbrev pub haltStep : Halt → Data → Flags → Control → List ℕ → Marks → Stepped
 haltStep Halt.FetchOutside a f c m k = entryStep Entry.FetchError f c m k
 haltStep Halt.FetchMarked a f c m k = stopped Reply.FetchMarked
 haltStep Halt.NoInstruction a f c m k = stopped Reply.NoInstruction
@@ -128,13 +128,13 @@ unfoldable pub lineOf : Control → Effect → Reach → Line
 lineOf c e r = record { pc = pcOf c; entry = entryBy r (e .control); address = dataOf r }
 
 -- a is the data address, x what it may store
-abbrev pub actStep : Act → Data → Val → Flags → Control → List ℕ → List ℕ → Stepped
+abbrev pub actStep : Act → Data → Val → Flags → Control → List ℕ → Marks → Stepped
 actStep (Act.Halted h) a x f c m k = haltStep h a f c m k
 actStep (Act.Does e t r) a x f c m k = completed (doneOf c e t r) (storedTo r (x .value) m) (markedTo r (x .mark) k) (lineOf c e r)
 
 -- ---- the step
 
-unfoldable pub instrStep : Instr → State → List ℕ → List ℕ → Stepped
+unfoldable pub instrStep : Instr → State → List ℕ → Marks → Stepped
 instrStep i s m k =
     actStep
     (actOf i (valueAt s (sourcesOf i .first)) (valueAt s (sourcesOf i .second)) (s .flags) (s .control) m k)
@@ -145,15 +145,15 @@ instrStep i s m k =
     m
     k
 
-abbrev pub fetchStep : Fetched → State → List ℕ → List ℕ → Stepped
+abbrev pub fetchStep : Fetched → State → List ℕ → Marks → Stepped
 fetchStep (Fetched.Halted h) s m k = haltStep h Data.Nowhere (s .flags) (s .control) m k
 fetchStep (Fetched.Run i) s m k = instrStep i s m k
 
-abbrev pub eventStep : Event → State → List ℕ → List ℕ → Stepped
+abbrev pub eventStep : Event → State → List ℕ → Marks → Stepped
 eventStep (Event.Enter e) s m k = entryStep e (s .flags) (s .control) m k
 eventStep Event.Instruction s m k = fetchStep (fetchOf (pcOf (s .control)) m k) s m k
 
-unfoldable pub stepOf : ℕ → State → List ℕ → List ℕ → Stepped
+unfoldable pub stepOf : ℕ → State → List ℕ → Marks → Stepped
 stepOf t s m k = eventStep (chosen t (s .control)) s m k
 
 -- the state after a completed step

@@ -1,6 +1,7 @@
 // Refusals 1 to 6.
 ghost use mathlib.Core.Path.{_≡_};
 ghost use Prim.Native.Nat.{ℕ};
+ghost use Rattle.marks.specs.Memory.{bits};
 ghost use Rattle.machine.specs.State.{outOfForm};
 ghost use Rattle.machine.specs.Run.{badLength, judge};
 use crate::Judged;
@@ -30,18 +31,17 @@ fn is_out_of_form(c: Control) -> bool
 }
 
 pub fn judge_all(b: usize, t: &[u8], s: State, m: &[u8], k: &[u8]) -> Judged
-    ensures { λ r. ⌜ r ≡ judge b (now (t .entry)) s (now (m .entry)) (now (k .entry)) ⌝ }
+    ensures { λ r. ⌜ r ≡ judge b (now (t .entry)) s (now (m .entry)) (bits (now (k .entry))) ⌝ }
 {
     if is_bad_length(m.len()) {
         return Judged::Refused(Reply::MemoryLength);
     }
     let n = m.len();
-    let l = k.len();
-    if l != n {
+    if marks::memory::is_bad_room(n, k) {
         return Judged::Refused(Reply::MarkLength);
     }
-    if marks::has_bad_mark(k) {
-        return Judged::Refused(Reply::MarkByte);
+    if marks::memory::has_bad_mark(n, k) {
+        return Judged::Refused(Reply::MarkPastEnd);
     }
     let c = s.control;
     if is_out_of_form(c) {

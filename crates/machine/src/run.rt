@@ -2,6 +2,7 @@
 ghost use mathlib.Core.Path.{_≡_};
 ghost use Prim.Native.Nat.{ℕ, _≤_};
 ghost use lib.ListN.{length};
+ghost use Rattle.marks.specs.Memory.{bits};
 ghost use Rattle.instruction.specs.Parts.{flags};
 ghost use Rattle.machine.specs.Run.{stepsOf, runOf};
 ghost use Rattle.machine.specs.Parts.{stateOf};
@@ -56,9 +57,9 @@ fn end_at(
 // The loop reads its own arrays: an array that is passed to be read at an index is copied. Most marks stay, and then their array is not written.
 fn steps(b: usize, t: &[u8], s: State, m: &mut [u8], k: &mut [u8]) -> Ended
     requires { ⌜ b ≤ length (now t) ⌝ }
-    ensures { λ r. ⌜ r ≡ stepsOf b 0 (now (t .entry)) s (now (m .entry)) (now (k .entry)) .ended ⌝ }
-    ensures { λ _. ⌜ now (m .exit) ≡ stepsOf b 0 (now (t .entry)) s (now (m .entry)) (now (k .entry)) .mem ⌝ }
-    ensures { λ _. ⌜ now (k .exit) ≡ stepsOf b 0 (now (t .entry)) s (now (m .entry)) (now (k .entry)) .marks ⌝ }
+    ensures { λ r. ⌜ r ≡ stepsOf b 0 (now (t .entry)) s (now (m .entry)) (bits (now (k .entry))) .ended ⌝ }
+    ensures { λ _. ⌜ now (m .exit) ≡ stepsOf b 0 (now (t .entry)) s (now (m .entry)) (bits (now (k .entry))) .mem ⌝ }
+    ensures { λ _. ⌜ bits (now (k .exit)) ≡ stepsOf b 0 (now (t .entry)) s (now (m .entry)) (bits (now (k .entry))) .marks ⌝ }
 {
     let mut regs = s.regs;
     let mut marks = s.marks;
@@ -137,9 +138,9 @@ fn steps(b: usize, t: &[u8], s: State, m: &mut [u8], k: &mut [u8]) -> Ended
 
 // A run over any memory, marks, state, tape and budget.
 pub fn run(b: usize, t: &[u8], s: State, m: &mut [u8], k: &mut [u8]) -> Ended
-    ensures { λ r. ⌜ r ≡ runOf b (now (t .entry)) s (now (m .entry)) (now (k .entry)) .ended ⌝ }
-    ensures { λ _. ⌜ now (m .exit) ≡ runOf b (now (t .entry)) s (now (m .entry)) (now (k .entry)) .mem ⌝ }
-    ensures { λ _. ⌜ now (k .exit) ≡ runOf b (now (t .entry)) s (now (m .entry)) (now (k .entry)) .marks ⌝ }
+    ensures { λ r. ⌜ r ≡ runOf b (now (t .entry)) s (now (m .entry)) (bits (now (k .entry))) .ended ⌝ }
+    ensures { λ _. ⌜ now (m .exit) ≡ runOf b (now (t .entry)) s (now (m .entry)) (bits (now (k .entry))) .mem ⌝ }
+    ensures { λ _. ⌜ bits (now (k .exit)) ≡ runOf b (now (t .entry)) s (now (m .entry)) (bits (now (k .entry))) .marks ⌝ }
 {
     let j = judge_all(b, t, s, m, k);
     match j {

@@ -4,6 +4,7 @@ ghost use Prim.Native.Nat.{ℕ};
 ghost use Rattle.word.specs.Bits.{on};
 ghost use Rattle.cpu.specs.Entries.{entered, passed};
 ghost use Rattle.cpu.specs.Cycles.{entryCost};
+ghost use Rattle.marks.specs.Memory.{bits};
 ghost use Rattle.instruction.specs.Parts.{val, flags};
 ghost use Rattle.machine.specs.Step.{storedTo, markedTo, entryBy, doneOf};
 ghost use Rattle.machine.specs.Parts.{haltedTo, begunOf, actOut, actMem, actMarks, halfAct};
@@ -50,7 +51,7 @@ pub fn halt(h: Halt, c: Control) -> Halted
 
 // All of a step that no register takes part in.
 pub fn begin(t: u32, c: Control, m: &[u8], mk: &[u8]) -> Begun
-    ensures { λ r. ⌜ r ≡ begunOf t c (now (m .entry)) (now (mk .entry)) ⌝ }
+    ensures { λ r. ⌜ r ≡ begunOf t c (now (m .entry)) (bits (now (mk .entry))) ⌝ }
 {
     let e = choose(t, c);
     match e {
@@ -120,14 +121,14 @@ fn finish(c: Control, e: Effect, t: Taint, r: Reach) -> Done
 
 fn write_at(r: Reach, u: u32, mu: bool, m: &mut [u8], mk: &mut [u8])
     ensures { λ _. ⌜ now (m .exit) ≡ storedTo r u (now (m .entry)) ⌝ }
-    ensures { λ _. ⌜ now (mk .exit) ≡ markedTo r mu (now (mk .entry)) ⌝ }
+    ensures { λ _. ⌜ bits (now (mk .exit)) ≡ markedTo r mu (bits (now (mk .entry))) ⌝ }
 {
     match r {
         Reach::Nowhere => {}
         Reach::Reads(_, _) => {}
         Reach::Writes(w, a) => {
             word::store(w, m, a, u);
-            marks::set_marks(w, mk, a, mu);
+            marks::memory::set_marks(w, mk, a, mu);
         }
         Reach::Raises(_) => {}
     }
@@ -136,7 +137,7 @@ fn write_at(r: Reach, u: u32, mu: bool, m: &mut [u8], mk: &mut [u8])
 fn act_step(a: Act, u: u32, mu: bool, c: Control, m: &mut [u8], mk: &mut [u8]) -> Out
     ensures { λ r. ⌜ r ≡ actOut a c ⌝ }
     ensures { λ _. ⌜ now (m .exit) ≡ actMem a (val u mu) (now (m .entry)) ⌝ }
-    ensures { λ _. ⌜ now (mk .exit) ≡ actMarks a (val u mu) (now (mk .entry)) ⌝ }
+    ensures { λ _. ⌜ bits (now (mk .exit)) ≡ actMarks a (val u mu) (bits (now (mk .entry))) ⌝ }
 {
     match a {
         Act::Halted(h) => Out::Halted(h),
@@ -160,9 +161,9 @@ pub fn half_step(
     m: &mut [u8],
     mk: &mut [u8],
 ) -> Out
-    ensures { λ r. ⌜ r ≡ actOut (halfAct first (val u mu) (val v mv) (flags tf cy) c (now (m .entry)) (now (mk .entry))) c ⌝ }
-    ensures { λ _. ⌜ now (m .exit) ≡ actMem (halfAct first (val u mu) (val v mv) (flags tf cy) c (now (m .entry)) (now (mk .entry))) (val u mu) (now (m .entry)) ⌝ }
-    ensures { λ _. ⌜ now (mk .exit) ≡ actMarks (halfAct first (val u mu) (val v mv) (flags tf cy) c (now (m .entry)) (now (mk .entry))) (val u mu) (now (mk .entry)) ⌝ }
+    ensures { λ r. ⌜ r ≡ actOut (halfAct first (val u mu) (val v mv) (flags tf cy) c (now (m .entry)) (bits (now (mk .entry)))) c ⌝ }
+    ensures { λ _. ⌜ now (m .exit) ≡ actMem (halfAct first (val u mu) (val v mv) (flags tf cy) c (now (m .entry)) (bits (now (mk .entry)))) (val u mu) (now (m .entry)) ⌝ }
+    ensures { λ _. ⌜ bits (now (mk .exit)) ≡ actMarks (halfAct first (val u mu) (val v mv) (flags tf cy) c (now (m .entry)) (bits (now (mk .entry)))) (val u mu) (bits (now (mk .entry))) ⌝ }
 {
     let kind = isa::kind_of((first / 256) as u8);
     let f = instruction::fetch::rest_at(kind, first, ByteAddr(c.pc), m, mk);

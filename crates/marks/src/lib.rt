@@ -1,17 +1,15 @@
 // Marks: which operands stop an instruction, which results become marked, and the marks of memory.
+pub mod memory;
+
 ghost use mathlib.Core.Path.{_≡_};
 ghost use mathlib.Core.Bool.{false, cond, _||_};
 ghost use Rattle.isa.specs.declared.Instr.{Instr};
-ghost use Rattle.word.specs.Bits.{num};
 ghost use Rattle.marks.specs.Marks.{aluMark, aluFlags, condMark, immMark, sfrMark, with, taint, aluBlocked, shortBlocked, longBlocked};
-ghost use Rattle.marks.specs.Memory.{markedAt, markAll, badMark};
 use isa::AluOp;
 use isa::CondOp;
 use isa::ImmOp;
 use isa::LongOp;
 use isa::ShortOp;
-use word::ByteAddr;
-use word::Width;
 
 // The marks of TF and CY.
 pub struct Flags {
@@ -178,30 +176,4 @@ pub fn is_long_blocked(op: LongOp, tf: bool, cy: bool) -> bool
         LongOp::J => false,
         LongOp::Jl => false,
     }
-}
-
-// ---- memory
-
-pub fn is_marked(w: Width, k: &[u8], at: ByteAddr) -> bool
-    ensures { λ r. ⌜ r ≡ markedAt w (now (k .entry)) at ⌝ }
-{
-    word::has_any(w, k, at)
-}
-
-pub fn set_marks(w: Width, k: &mut [u8], at: ByteAddr, m: bool)
-    ensures { λ _. ⌜ now (k .exit) ≡ markAll w (now (k .entry)) at m ⌝ }
-{
-    word::fill(w, k, at, byte(m));
-}
-
-fn byte(m: bool) -> u8
-    ensures { λ r. ⌜ r ≡ num m ⌝ }
-{
-    if m { 1 } else { 0 }
-}
-
-pub fn has_bad_mark(k: &[u8]) -> bool
-    ensures { λ r. ⌜ r ≡ badMark (now (k .entry)) ⌝ }
-{
-    word::has_above(1, k)
 }

@@ -1,13 +1,15 @@
 -- With nothing marked, no byte, register or flag that an instruction reads is marked, none that it writes becomes marked, and stop 14 does not come.
 -- Assumes nothing.
-use Prim.Native.Nat.{ℕ, zero, suc, _+_}
+use Prim.Native.Nat.{ℕ, zero, suc, _+_, _-_, _%_}
 use mathlib.Core.Path.{_≡_, refl, sym, ap, _∙_}
 use mathlib.Core.Bool.{Bool, true, false, cond, Bool·beq}
 use mathlib.Core.List.{List, [], _∷_}
+use native.Mathlib.Omega.{arith}
 use lib.Dec.{eqb}
+use borrow.Author.Tests.{ltb-false}
 use lib.ListN.{getD, set, replicate}
 use lib.Seq.{set-getD}
-use Rattle.word.specs.Bytes.{bytesOf, inside, fill, any, anyOf, fillOf}
+use Rattle.word.specs.Bytes.{bytesOf, anyAbove}
 use Rattle.word.specs.declared.ByteAddr.{ByteAddr}
 use Rattle.word.specs.declared.Width.{Width}
 use Rattle.isa.specs.declared.AluOp.{AluOp}
@@ -18,8 +20,8 @@ use Rattle.isa.specs.declared.LongOp.{LongOp}
 use Rattle.isa.specs.declared.Instr.{Instr}
 use Rattle.instruction.specs.declared.Reach.{Reach}
 use Rattle.marks.specs.Marks.{aluMark, aluFlags, condMark, immMark, sfrMark, with, taint, aluBlocked, shortBlocked, longBlocked, blocked}
-use Rattle.marks.specs.Memory.{badMark}
-use Rattle.word.specs.Bytes.{anyAbove}
+use Rattle.marks.specs.Memory.{Marks, bits, bytes, markAt, anyMark, markedAt, badMark}
+use Rattle.marks.proofs.Places.{any-none, puts-off}
 use Rattle.marks.specs.declared.Flags.{Flags}
 use Rattle.instruction.specs.Act.{loadedMark}
 use Rattle.machine.specs.Step.{markedTo}
@@ -48,40 +50,34 @@ same : {A : Type 0} (c : Bool) (x : A) → cond c x x ≡ x
 same true x = refl
 same false x = refl
 
--- a mark slice of zeros alone is no refusal 3
-pub above-off : (k : List ℕ) → ((i : ℕ) → getD k i 0 ≡ 0) → badMark k ≡ false
-unfolding anyAbove
-above-off [] z = refl
-above-off (x ∷ k) z = let e : x ≡ 0 = z 0 in rw e (above-off k (λ i. z (suc i)))
+module _ (k : Marks) (z : (i : ℕ) → markAt k i ≡ false) where
+  any-off : (n a : ℕ) → anyMark n k a ≡ false
+  any-off n a = any-none n k a (λ j l. z (a + j))
 
-module _ (k : List ℕ) (z : (i : ℕ) → getD k i 0 ≡ 0) where
-  any-off : (n a : ℕ) → any n k a ≡ false
-  unfolding any
-  any-off zero a = refl
-  any-off (suc n) a = rw (any-off n a, z (a + n))
-
-  pub anyOf-off : (w : Width) (a : ByteAddr) → anyOf w k a ≡ false
-  anyOf-off w a = rw (any-off (bytesOf w) (a .0)) (same (inside k a (bytesOf w)) false)
-
-  fill-kept : (n a : ℕ) → fill n k a 0 ≡ k
-  unfolding fill
-  fill-kept zero a = refl
-  fill-kept (suc n) a = rw (fill-kept n a) (ap (set k (a + n)) (sym (z (a + n))) ∙ set-getD k (a + n) 0)
-
-  fillOf-kept : (w : Width) (a : ByteAddr) → fillOf w k a 0 ≡ k
-  fillOf-kept w a = rw (fill-kept (bytesOf w) (a .0)) (same (inside k a (bytesOf w)) k)
+  pub marked-off : (w : Width) (a : ByteAddr) → markedAt w k a ≡ false
+  marked-off w a = any-off (bytesOf w) (a .0)
 
   pub loaded-off : (r : Reach) → loadedMark r k ≡ false
   loaded-off Reach.Nowhere = refl
-  loaded-off (Reach.Reads w a) = anyOf-off w a
+  loaded-off (Reach.Reads w a) = marked-off w a
   loaded-off (Reach.Writes w a) = refl
   loaded-off (Reach.Raises n) = refl
 
   pub marked-kept : (r : Reach) → markedTo r false k ≡ k
   marked-kept Reach.Nowhere = refl
   marked-kept (Reach.Reads w a) = refl
-  marked-kept (Reach.Writes w a) = fillOf-kept w a
+  marked-kept (Reach.Writes w a) = puts-off (bytesOf w) k (a .0) (any-off (bytesOf w) (a .0))
   marked-kept (Reach.Raises n) = refl
+
+-- a slice without a mark is no refusal 3
+pub none-bad : (n : ℕ) (k : Marks) → ((i : ℕ) → markAt k i ≡ false) → badMark n k ≡ false
+unfolding anyAbove
+none-bad n (bits k) z = any-none (8 - n % 8) (bits k) n (λ j l. z (n + j))
+none-bad n (bytes k) z = above-off k (λ i. let q = ltb-false 0 (getD k i 0) (z i) in omega arith)
+  where
+    above-off : (l : List ℕ) → ((i : ℕ) → getD l i 0 ≡ 0) → anyAbove 1 l ≡ false
+    above-off [] h = refl
+    above-off (x ∷ l) h = let e : x ≡ 0 = h 0 in rw e (above-off l (λ i. h (suc i)))
 
 -- ---- instructions
 

@@ -12,6 +12,7 @@ use Rattle.isa.specs.declared.Decoded.{Decoded}
 use Rattle.isa.specs.declared.Instr.{Instr}
 use Rattle.cpu.specs.Control.{pcOf}
 use Rattle.cpu.specs.Exec.{sourcesOf}
+use Rattle.marks.specs.Memory.{Marks}
 use Rattle.instruction.specs.Reply.{numberOf}
 use Rattle.instruction.specs.Fetch.{afterHalf}
 use Rattle.instruction.specs.Act.{reachOf, outside}
@@ -123,5 +124,5 @@ run-fine : (b : ℕ) (t : List ℕ) (s : Core) (m : List ℕ) → byMarks (run b
 unfolding run
 run-fine b t s m = unless-fine (refusal b t s m) b t s m (refusal-fine b t s m)
 
-pub clean-fine : (b : ℕ) (t : List ℕ) (s : State) (m k : List ℕ) → Clean s m k → byMarks (runOf b t s m k .ended .reply) ≡ false
+pub clean-fine : (b : ℕ) (t : List ℕ) (s : State) (m : List ℕ) (k : Marks) → Clean s m k → byMarks (runOf b t s m k .ended .reply) ≡ false
 clean-fine b t s m k c = ap (λ (z : Final). byMarks (z .ended .reply)) (run-same b t s m k c) ∙ run-fine b t (coreOf s) m

@@ -6,7 +6,6 @@ use mathlib.Core.Bool.{Bool, true, false, cond, _&&_}
 use mathlib.Core.List.{List}
 use native.Mathlib.Omega.{arith}
 use lib.ListN.{length, getD, set, replicate}
-use borrow.Author.Tests.{eq-eqb}
 use Rattle.word.specs.Bits.{on}
 use Rattle.word.specs.declared.ByteAddr.{ByteAddr}
 use Rattle.word.specs.declared.Width.{Width}
@@ -20,6 +19,7 @@ use Rattle.cpu.specs.declared.Control.{Control}
 use Rattle.cpu.specs.declared.Effect.{Effect}
 use Rattle.cpu.specs.declared.Entry.{Entry}
 use Rattle.marks.specs.Marks.{with}
+use Rattle.marks.specs.Memory.{Marks, markAt, badRoom}
 use Rattle.marks.specs.declared.Flags.{Flags}
 use Rattle.instruction.specs.Fetch.{guarded, found, fetchOf}
 use Rattle.instruction.specs.Act.{Val, reachOf, outside, loadedFrom, actOf}
@@ -39,7 +39,7 @@ use Rattle.machine.specs.declared.Judged.{Judged}
 use Rattle.machine.specs.declared.Line.{Line}
 use Rattle.plain.specs.Plain.{Core, reached, decoded, fetch, Outcome, stopped, completed, changed, enters, halts, act, perform, onFetched, onEvent, step, Result, refusal, stepsFrom, unlessRefused, run, goOn as goOnPlain}
 use Rattle.plain.specs.Clean.{Clean, coreOf, beside}
-use Rattle.plain.proofs.Marks.{none, reg-off, reg-kept, above-off, anyOf-off, loaded-off, marked-kept, taint-off, blocked-off}
+use Rattle.plain.proofs.Marks.{none, reg-off, reg-kept, none-bad, marked-off, loaded-off, marked-kept, taint-off, blocked-off}
 
 -- a state of the machine without marks, as one with marks of which none is set
 abbrev unmarked : Core → State
@@ -48,7 +48,7 @@ unmarked s = record { regs = s .regs; marks = replicate 16 false; flags = none; 
 -- ---- one step
 
 -- a step of the one machine and of the other, from state s, memory m and mark slice k: both stop alike, or come to the same state and memory
-data Agree (s : Core) (k : List ℕ) : Stepped → Outcome → Type 0 where
+data Agree (s : Core) (k : Marks) : Stepped → Outcome → Type 0 where
   stops : (r : Reply) → Agree s k (halted r) (stopped r)
   goes : (c : Control) (r v : ℕ) (l : List ℕ) (x : Line)
       → Agree s k (made (record { control = c; flags = none; reg = r; value = v; mark = false }) l k x)
@@ -61,9 +61,9 @@ and-true : (b : Bool) → (b && true) ≡ b
 and-true true = refl
 and-true false = refl
 
-module _ (k : List ℕ) (z : (i : ℕ) → getD k i 0 ≡ 0) where
+module _ (k : Marks) (z : (i : ℕ) → markAt k i ≡ false) where
   guarded-same : (a : ByteAddr) (m : List ℕ) (x : Fetched) → guarded a m k x ≡ reached a m x
-  guarded-same a m x = rw (anyOf-off k z Width.Half a)
+  guarded-same a m x = rw (marked-off k z Width.Half a)
 
   found-same : (d : Decoded) (b : ByteAddr) (m : List ℕ) → found d b m k ≡ decoded d b m
   found-same (Decoded.Short i) b m = refl
@@ -72,7 +72,7 @@ module _ (k : List ℕ) (z : (i : ℕ) → getD k i 0 ≡ 0) where
 
   fetch-same : (a : ByteAddr) (m : List ℕ) → fetchOf a m k ≡ fetch a m
   unfolding fetchOf fetch
-  fetch-same a m = rw (anyOf-off k z Width.Half a, found-same (decodedAt m a) _ m)
+  fetch-same a m = rw (marked-off k z Width.Half a, found-same (decodedAt m a) _ m)
 
   -- an entry on a control part that has the same TE
   enters-same : (e : Entry) (c : Control) (s : Core) (m : List ℕ) (x : Line) → on (c .psw) 4 ≡ on (s .control .psw) 4
@@ -123,7 +123,7 @@ module _ (k : List ℕ) (z : (i : ℕ) → getD k i 0 ≡ 0) where
 
   -- ---- a run
 
-  goes-on : (n : ℕ) (s : Core) (m : List ℕ) (further : State → List ℕ → List ℕ → Final) (plainly : Core → List ℕ → Result)
+  goes-on : (n : ℕ) (s : Core) (m : List ℕ) (further : State → List ℕ → Marks → Final) (plainly : Core → List ℕ → Result)
       → ((u : Core) (l : List ℕ) → further (unmarked u) l k ≡ beside (plainly u l) (unmarked u) k) → (x : Stepped) (o : Outcome) → Agree s k x o
       → goOn further n (unmarked s) m k x ≡ beside (goOnPlain plainly n s m o) (unmarked s) k
   unfolding goOn goOnPlain after
@@ -136,27 +136,27 @@ module _ (k : List ℕ) (z : (i : ℕ) → getD k i 0 ≡ 0) where
   steps-same (suc b) n t s m =
       goes-on n s m (stepsOf b (n + 1) t) (stepsFrom b (n + 1) t) (λ u l. steps-same b (n + 1) t u l) _ _ (step-same (getD t n 0) s m)
 
-  judge-same : (b : ℕ) (t : List ℕ) (s : Core) (m : List ℕ) → length k ≡ length m → judge b t (unmarked s) m k ≡ refusal b t s m
+  judge-same : (b : ℕ) (t : List ℕ) (s : Core) (m : List ℕ) → badRoom (length m) k ≡ false → judge b t (unmarked s) m k ≡ refusal b t s m
   unfolding judge refusal
-  judge-same b t s m e = rw (eq-eqb (length k) (length m) e, above-off k z)
+  judge-same b t s m e = rw (e, none-bad (length m) k z)
 
   judged-same : (j : Judged) (b : ℕ) (t : List ℕ) (s : Core) (m : List ℕ)
       → judged j b t (unmarked s) m k ≡ beside (unlessRefused j b t s m) (unmarked s) k
   judged-same (Judged.Refused r) b t s m = refl
   judged-same Judged.Good b t s m = steps-same b 0 t s m
 
-  unmarked-same : (b : ℕ) (t : List ℕ) (s : Core) (m : List ℕ) → length k ≡ length m
+  unmarked-same : (b : ℕ) (t : List ℕ) (s : Core) (m : List ℕ) → badRoom (length m) k ≡ false
       → runOf b t (unmarked s) m k ≡ beside (run b t s m) (unmarked s) k
   unfolding runOf run
   unmarked-same b t s m e = rw (judge-same b t s m e) (judged-same (refusal b t s m) b t s m)
 
 -- a state with clean marks is its core, unmarked
-is-unmarked : (s : State) (m k : List ℕ) → Clean s m k → s ≡ unmarked (coreOf s)
+is-unmarked : (s : State) (m : List ℕ) (k : Marks) → Clean s m k → s ≡ unmarked (coreOf s)
 is-unmarked s m k c =
     ap₂ (λ (l : List Bool) (f : Flags). record { regs = s .regs; marks = l; flags = f; control = s .control }) (c .regs)
     (ap₂ (λ (t y : Bool). record { tf = t; cy = y }) (c .tf) (c .cy))
 
-pub run-same : (b : ℕ) (t : List ℕ) (s : State) (m k : List ℕ) → Clean s m k → runOf b t s m k ≡ beside (run b t (coreOf s) m) s k
+pub run-same : (b : ℕ) (t : List ℕ) (s : State) (m : List ℕ) (k : Marks) → Clean s m k → runOf b t s m k ≡ beside (run b t (coreOf s) m) s k
 run-same b t s m k c =
     subst (λ (u : State). runOf b t u m k ≡ beside (run b t (coreOf s) m) u k) (sym (is-unmarked s m k c))
-    (unmarked-same k (c .bytes) b t (coreOf s) m (c .size))
+    (unmarked-same k (c .memory) b t (coreOf s) m (c .room))

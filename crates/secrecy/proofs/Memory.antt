@@ -1,7 +1,7 @@
 -- Lists with marks in two runs: what is read unmarked is equal, and writes keep SameList.
 -- Assumes nothing.
-use Prim.Native.Nat.{ℕ, zero, suc, _+_, _/_, _%_, _<_}
-use mathlib.Core.Path.{_≡_, refl, sym, ap, subst, _∙_}
+use Prim.Native.Nat.{ℕ, zero, suc, _+_, _-_, _/_, _%_, _<_, _≤_}
+use mathlib.Core.Path.{_≡_, refl, sym, ap, ap₂, subst, _∙_}
 use mathlib.Core.Bool.{Bool, true, false, cond}
 use mathlib.Core.List.{List}
 use native.Mathlib.Decide.{ℕ-discrete, decLt}
@@ -9,15 +9,15 @@ use native.Mathlib.Nat.{not-suc-le-zero}
 use native.Mathlib.Omega.{arith}
 use lib.Dec.{ltb, leb}
 use lib.ListN.{length, getD, set, length-set}
-use lib.Seq.{getD-set-same, getD-set-other, set-out, set-comm}
-use borrow.Author.Tests.{ltb-false}
-use Rattle.word.specs.Bits.{num}
-use Rattle.word.specs.Bytes.{bytesOf, inside, load, store, fill, any, loadOf, storeOf, fillOf, anyOf}
+use lib.Seq.{getD-set-same, getD-set-other, set-out}
+use borrow.Author.Tests.{ltb-true, ltb-false, leb-true}
+use Rattle.word.specs.Bytes.{bytesOf, inside, store, loadOf, storeOf}
 use Rattle.word.specs.declared.ByteAddr.{ByteAddr}
 use Rattle.word.specs.declared.Width.{Width}
-use Rattle.word.proofs.Memory.{load-same, store-length, fill-length}
+use Rattle.word.proofs.Memory.{load-same, store-length, store-kept}
+use Rattle.marks.specs.Memory.{Marks, markAt, putMarks, markedAt, markAll}
+use Rattle.marks.proofs.Places.{Has, none-marked, puts-other, puts-same, has-puts}
 use Rattle.secrecy.specs.Same.{SameList, SameMem}
-use Rattle.secrecy.proofs.Exec.{left-off, right-off}
 
 -- one place written, with its mark m
 module _ {M : Type 0} {z : M} {k : List M} {a b : List ℕ} (s : SameList z k a b) (each : length a ≡ length k) (i : ℕ) (m : M) (v w : ℕ) (f : m ≡ z → v ≡ w) where
@@ -46,91 +46,72 @@ module _ {M : Type 0} {z : M} {k : List M} {a b : List ℕ} (s : SameList z k a 
           subst (λ (n : ℕ). getD (set a i v) n 0 ≡ getD (set b i w) n 0) (sym e) (at-place (subst (λ (n : ℕ). getD (set k i m) n z ≡ z) e h))
       go j (no ne) h = getD-set-other a i j v 0 ne ∙ s .equal j (sym (getD-set-other k i j m z ne) ∙ h) ∙ sym (getD-set-other b i j w 0 ne)
 
--- no byte marked
-any-off : (n : ℕ) (k : List ℕ) (a i : ℕ) → any n k a ≡ false → i < n → getD k (a + i) 0 ≡ 0
-unfolding any
-any-off zero k a i h l = absurd (not-suc-le-zero l)
-any-off (suc n) k a i h l = go (ℕ-discrete i n) (λ q. any-off n k a i (left-off (any n k a) (ltb 0 (getD k (a + n) 0)) h) q)
-  where
-    last : getD k (a + n) 0 ≡ 0
-    last = let q = ltb-false 0 (getD k (a + n) 0) (right-off (any n k a) (ltb 0 (getD k (a + n) 0)) h) in omega arith
+-- ---- memory and its marks
 
-    go : Dec (i ≡ n) → (i < n → getD k (a + i) 0 ≡ 0) → getD k (a + i) 0 ≡ 0
-    go (yes e) f = ap (λ (j : ℕ). getD k (a + j) 0) e ∙ last
+-- reading
+module _ {k : Marks} {m n : List ℕ} (s : SameMem k m n) where
+  pub loaded : (w : Width) (a : ByteAddr) → markedAt w k a ≡ false → loadOf w m a ≡ loadOf w n a
+  loaded w a h =
+      ap₂ (λ (l v : ℕ). cond (leb (a .0 + bytesOf w) l) v 0) (s .long)
+      (load-same (bytesOf w) m n (a .0) (λ i l. s .equal (a .0 + i) (none-marked (bytesOf w) k (a .0) i h l)))
+
+-- the slice has a place for each byte of memory
+abbrev pub Covers : Marks → List ℕ → Type 0
+Covers k m = (i : ℕ) → i < length m → Has k i
+
+-- a byte that the same number wrote
+byte-same : (w : ℕ) (m n : List ℕ) (a i v : ℕ) → i < w → a + w ≤ length m → a + w ≤ length n → getD (store w m a v) (a + i) 0 ≡ getD (store w n a v) (a + i) 0
+unfolding store
+byte-same zero m n a i v l h g = absurd (not-suc-le-zero l)
+byte-same (suc w) m n a i v l h g =
+    go (ℕ-discrete i w) (λ q. byte-same w (set m (a + w) (v % 256)) (set n (a + w) (v % 256)) a i (v / 256) q (rw length-set (omega arith)) (rw length-set (omega arith)))
+  where
+    last : (k : List ℕ) → a + suc w ≤ length k → getD (store w (set k (a + w) (v % 256)) a (v / 256)) (a + w) 0 ≡ v % 256
+    last k f = store-kept w (set k (a + w) (v % 256)) a (v / 256) (a + w) (λ j q e. omega arith) ∙ getD-set-same k (a + w) (v % 256) 0 (omega arith)
+
+    go : Dec (i ≡ w)
+        → (i < w → getD (store w (set m (a + w) (v % 256)) a (v / 256)) (a + i) 0 ≡ getD (store w (set n (a + w) (v % 256)) a (v / 256)) (a + i) 0)
+        → getD (store w (set m (a + w) (v % 256)) a (v / 256)) (a + i) 0 ≡ getD (store w (set n (a + w) (v % 256)) a (v / 256)) (a + i) 0
+    go (yes e) f =
+        subst
+        (λ (j : ℕ). getD (store w (set m (a + w) (v % 256)) a (v / 256)) (a + j) 0 ≡ getD (store w (set n (a + w) (v % 256)) a (v / 256)) (a + j) 0)
+        (sym e)
+        (last m h ∙ sym (last n g))
     go (no ne) f = f (omega (arith, ne))
 
-module _ {k m n : List ℕ} (s : SameMem k m n) (each : length m ≡ length k) where
-  -- reading
-  loads : (w a : ℕ) → cond (leb (a + w) (length k)) (any w k a) false ≡ false
-      → cond (leb (a + w) (length m)) (load w m a) 0 ≡ cond (leb (a + w) (length n)) (load w n a) 0
-  loads w a h =
-      ap (λ (l : ℕ). cond (leb (a + w) l) (load w m a) 0) each
-      ∙ go (leb (a + w) (length k)) h
-      ∙ sym (ap (λ (l : ℕ). cond (leb (a + w) l) (load w n a) 0) (sym (s .long) ∙ each))
+-- writing, inside memory
+module _ {k : Marks} {m n : List ℕ} (s : SameMem k m n) (c : Covers k m) where
+  stores : (w a : ℕ) (b : Bool) (v x : ℕ) → a + w ≤ length m → (b ≡ false → v ≡ x) → SameMem (putMarks w k a b) (store w m a v) (store w n a x)
+  stores w a b v x h f =
+      record {
+        long = store-length w m a v ∙ s .long ∙ sym (store-length w n a x);
+        equal = λ i. go i (ltb i a) refl (ltb i (a + w)) refl;
+      }
     where
-      go : (t : Bool) → cond t (any w k a) false ≡ false → cond t (load w m a) 0 ≡ cond t (load w n a) 0
-      go true e = load-same w m n a (λ i l. s .equal (a + i) (any-off w k a i e l))
-      go false e = refl
+      kept : (i : ℕ) → ((j : ℕ) → j < w → i ≡ a + j → ⊥) → markAt (putMarks w k a b) i ≡ false → getD (store w m a v) i 0 ≡ getD (store w n a x) i 0
+      kept i far r = store-kept w m a v i far ∙ s .equal i (sym (puts-other w k a i b far) ∙ r) ∙ sym (store-kept w n a x i far)
 
-  pub loaded : (w : Width) (a : ByteAddr) → anyOf w k a ≡ false → loadOf w m a ≡ loadOf w n a
-  loaded w a h = loads (bytesOf w) (a .0) h
+      go : (i : ℕ) (p : Bool) → ltb i a ≡ p → (q : Bool) → ltb i (a + w) ≡ q → markAt (putMarks w k a b) i ≡ false
+          → getD (store w m a v) i 0 ≡ getD (store w n a x) i 0
+      go i true below q e r = kept i (λ j l z. let u : i < a = ltb-true _ _ below in omega arith) r
+      go i false above true under r =
+          let u : a ≤ i = ltb-false _ _ above in
+          let l : i < a + w = ltb-true _ _ under in
+          let z : i ≡ a + (i - a) = omega arith in
+          subst (λ (j : ℕ). getD (store w m a v) j 0 ≡ getD (store w n a x) j 0) (sym z)
+          (ap (λ (y : ℕ). getD (store w m a y) (a + (i - a)) 0)
+          (f (sym (puts-same w k a (i - a) b (omega arith) (c (a + (i - a)) (omega arith))) ∙ subst (λ (j : ℕ). markAt (putMarks w k a b) j ≡ false) z r))
+          ∙ byte-same w m n a (i - a) x (omega arith) h (subst (λ (y : ℕ). a + w ≤ y) (s .long) h))
+      go i false above false over r = kept i (λ j l z. let u : a + w ≤ i = ltb-false _ _ over in omega arith) r
 
--- writing
-fill-set : (n : ℕ) (k : List ℕ) (a b j : ℕ) → ((i : ℕ) → i < n → j ≡ a + i → ⊥) → fill n (set k j b) a b ≡ set (fill n k a b) j b
-unfolding fill
-fill-set zero k a b j h = refl
-fill-set (suc n) k a b j h =
-    ap (λ (l : List ℕ). set l (a + n) b) (fill-set n k a b j (λ i l. h i (omega arith)))
-    ∙ set-comm (fill n k a b) j (a + n) b b (h n (omega arith))
+  pub stored : (w : Width) (a : ByteAddr) (b : Bool) (v x : ℕ) → inside m a (bytesOf w) ≡ true → (b ≡ false → v ≡ x)
+      → SameMem (markAll w k a b) (storeOf w m a v) (storeOf w n a x)
+  stored w a b v x h f =
+      rw (h, subst (λ (l : ℕ). leb (a .0 + bytesOf w) l ≡ true) (s .long) h) (stores (bytesOf w) (a .0) b v x (leb-true _ _ h) f)
 
-stores : (w : ℕ) {k m n : List ℕ} → SameMem k m n → length m ≡ length k → (a c v x : ℕ) → (c ≡ 0 → v ≡ x)
-    → SameMem (fill w k a c) (store w m a v) (store w n a x)
-unfolding fill store
-stores zero s each a c v x f = s
-stores (suc w) {k} {m} {n} s each a c v x f =
-    subst (λ (l : List ℕ). SameMem l (store w (set m (a + w) (v % 256)) a (v / 256)) (store w (set n (a + w) (x % 256)) a (x / 256)))
-    (fill-set w k a c (a + w) (λ i l q. omega arith))
-    (stores w
-    (set-same s each (a + w) c (v % 256) (x % 256) (λ e. ap (λ (y : ℕ). y % 256) (f e)))
-    (length-set m (a + w) (v % 256) ∙ each ∙ sym (length-set k (a + w) c))
-    a
-    c
-    (v / 256)
-    (x / 256)
-    (λ e. ap (λ (y : ℕ). y / 256) (f e)))
-
-module _ {k m n : List ℕ} (s : SameMem k m n) (each : length m ≡ length k) where
-  stores-in : (w a : ℕ) (b : Bool) (v x : ℕ) → (b ≡ false → v ≡ x)
-      → SameMem (cond (leb (a + w) (length k)) (fill w k a (num b)) k)
-      (cond (leb (a + w) (length m)) (store w m a v) m)
-      (cond (leb (a + w) (length n)) (store w n a x) n)
-  stores-in w a b v x f =
-      let t : Bool = leb (a + w) (length k) in
-      subst (λ (l : ℕ). SameMem (cond t (fill w k a (num b)) k) (cond (leb (a + w) (length m)) (store w m a v) m) (cond (leb (a + w) l) (store w n a x) n))
-      (sym each ∙ s .long)
-      (subst (λ (l : ℕ). SameMem (cond t (fill w k a (num b)) k) (cond (leb (a + w) l) (store w m a v) m) (cond t (store w n a x) n))
-      (sym each)
-      (go t))
+  pub covers : (w : Width) (a : ByteAddr) (b : Bool) (v : ℕ) → Covers (markAll w k a b) (storeOf w m a v)
+  covers w a b v i l = has-puts (bytesOf w) k (a .0) i b (c i (subst (λ (y : ℕ). i < y) (long (inside m a (bytesOf w))) l))
     where
-      off : (b : Bool) → num b ≡ 0 → b ≡ false
-      off true e = absurd (omega arith)
-      off false e = refl
-
-      go : (t : Bool) → SameMem (cond t (fill w k a (num b)) k) (cond t (store w m a v) m) (cond t (store w n a x) n)
-      go true = stores w s each a (num b) v x (λ e. f (off b e))
-      go false = s
-
-  pub stored : (w : Width) (a : ByteAddr) (b : Bool) (v x : ℕ) → (b ≡ false → v ≡ x) → SameMem (fillOf w k a (num b)) (storeOf w m a v) (storeOf w n a x)
-  stored w a b v x f = stores-in (bytesOf w) (a .0) b v x f
-
--- a store changes neither length
-pub stored-each : (w : Width) (k m : List ℕ) (a : ByteAddr) (b : Bool) (v : ℕ) → length m ≡ length k → length (storeOf w m a v) ≡ length (fillOf w k a (num b))
-stored-each w k m a b v e = mem (inside m a (bytesOf w)) ∙ e ∙ sym (marks (inside k a (bytesOf w)))
-  where
-    mem : (t : Bool) → length (cond t (store (bytesOf w) m (a .0) v) m) ≡ length m
-    mem true = store-length (bytesOf w) m (a .0) v
-    mem false = refl
-
-    marks : (t : Bool) → length (cond t (fill (bytesOf w) k (a .0) (num b)) k) ≡ length k
-    marks true = fill-length (bytesOf w) k (a .0) (num b)
-    marks false = refl
+      long : (t : Bool) → length (cond t (store (bytesOf w) m (a .0) v) m) ≡ length m
+      long true = store-length (bytesOf w) m (a .0) v
+      long false = refl

@@ -7,12 +7,11 @@ use mathlib.Core.List.{List, _∷_}
 use native.Mathlib.Omega.{arith}
 use lib.Dec.{ltb, eqb, lit≤}
 use lib.ListN.{length, getD, set, take, length-set}
-use borrow.Author.Tests.{eqb-true, not-false}
 use Rattle.word.specs.Bits.{fieldOf}
 use Rattle.word.specs.Bytes.{anyAbove}
 use Rattle.cpu.specs.Control.{withSfr}
 use Rattle.cpu.specs.declared.Control.{Control}
-use Rattle.marks.specs.Memory.{badMark}
+use Rattle.marks.specs.Memory.{Marks, badRoom, badMark}
 use Rattle.marks.specs.declared.Flags.{Flags}
 use Rattle.instruction.specs.declared.Reply.{Reply}
 use Rattle.machine.specs.State.{outOfForm}
@@ -22,9 +21,10 @@ use Rattle.machine.specs.Trace.{Shown, traceOn, traceOf, shown, shownOf}
 use Rattle.machine.specs.declared.State.{State}
 use Rattle.machine.specs.declared.Judged.{Judged}
 use Rattle.machine.specs.declared.Done.{Done}
+use Rattle.marks.proofs.Places.{room-has}
 use Rattle.secrecy.specs.Same.{SameControl, SameList, SameMem, Same, SameFinal}
 use Rattle.secrecy.proofs.Psw.{bit-over}
-use Rattle.secrecy.proofs.Memory.{set-same}
+use Rattle.secrecy.proofs.Memory.{set-same, Covers}
 use Rattle.secrecy.proofs.Control.{cycles-same}
 use Rattle.secrecy.proofs.Step.{SameDone, SameStep, stops, goes, step-same}
 
@@ -37,7 +37,7 @@ like a c = record { regs = c .regs; marks = a .marks; flags = a .flags; control 
 is-like : (a c : State) → Same a c → like a c ≡ c
 is-like a c s = ap₂ (λ (k : List Bool) (f : Flags). record { regs = c .regs; marks = k; flags = f; control = c .control }) (s .marks) (s .flags)
 
-stepped : {a c : State} → Same a c → {k m n : List ℕ} → SameMem k m n → length m ≡ length k → (t : ℕ) → SameStep (stepOf t a m k) (stepOf t c n k)
+stepped : {a c : State} → Same a c → {k : Marks} {m n : List ℕ} → SameMem k m n → Covers k m → (t : ℕ) → SameStep (stepOf t a m k) (stepOf t c n k)
 stepped {a} {c} s {k} {m} {n} mem each t =
     subst (λ (x : State). SameStep (stepOf t a m k) (stepOf t x n k)) (is-like a c s) (step-same (s .regs) (s .control) mem each t)
 
@@ -64,30 +64,30 @@ after-same {a} {c} s {d} {e} w =
 
 -- ---- the steps
 
-go-on : (rest : State → List ℕ → List ℕ → Final)
-    → ((x y : State) (p q l : List ℕ) → Same x y → SameMem l p q → length p ≡ length l → SameFinal (rest x p l) (rest y q l))
-    → (i : ℕ) {a c : State} → Same a c → {m n k : List ℕ} → SameMem k m n → {u v : Stepped} → SameStep u v
+go-on : (rest : State → List ℕ → Marks → Final)
+    → ((x y : State) (p q : List ℕ) (l : Marks) → Same x y → SameMem l p q → Covers l p → SameFinal (rest x p l) (rest y q l))
+    → (i : ℕ) {a c : State} → Same a c → {m n : List ℕ} {k : Marks} → SameMem k m n → {u v : Stepped} → SameStep u v
     → SameFinal (goOn rest i a m k u) (goOn rest i c n k v)
 unfolding goOn
 go-on rest ih i s mem (stops r) = record { reply = refl; steps = refl; cycles = cycles-same (s .control); state = s; marks = refl; mem = mem }
 go-on rest ih i s mem (goes x w h each) = ih _ _ _ _ _ (after-same s w) h each
 
-pub steps-same : (b i : ℕ) (t : List ℕ) (a c : State) (m n k : List ℕ) → Same a c → SameMem k m n → length m ≡ length k
+pub steps-same : (b i : ℕ) (t : List ℕ) (a c : State) (m n : List ℕ) (k : Marks) → Same a c → SameMem k m n → Covers k m
     → SameFinal (stepsOf b i t a m k) (stepsOf b i t c n k)
 unfolding stepsOf
 steps-same zero i t a c m n k s mem each = record { reply = refl; steps = refl; cycles = cycles-same (s .control); state = s; marks = refl; mem = mem }
 steps-same (suc b) i t a c m n k s mem each =
     go-on (stepsOf b (i + 1) t) (steps-same b (i + 1) t) i s mem (stepped s mem each (getD t i 0))
 
-trace-on : (rest : State → List ℕ → List ℕ → List Shown)
-    → ((x y : State) (p q l : List ℕ) → Same x y → SameMem l p q → length p ≡ length l → rest x p l ≡ rest y q l)
+trace-on : (rest : State → List ℕ → Marks → List Shown)
+    → ((x y : State) (p q : List ℕ) (l : Marks) → Same x y → SameMem l p q → Covers l p → rest x p l ≡ rest y q l)
     → {a c : State} → Same a c → {u v : Stepped} → SameStep u v → traceOn rest a u ≡ traceOn rest c v
 unfolding traceOn
 trace-on rest ih s (stops r) = refl
 trace-on rest ih s (goes x w h each) =
     ap₂ (λ (n : ℕ) (l : List Shown). record { line = x; cycles = n } ∷ l) (cycles-same (w .control)) (ih _ _ _ _ _ (after-same s w) h each)
 
-pub trace-same : (b i : ℕ) (t : List ℕ) (a c : State) (m n k : List ℕ) → Same a c → SameMem k m n → length m ≡ length k
+pub trace-same : (b i : ℕ) (t : List ℕ) (a c : State) (m n : List ℕ) (k : Marks) → Same a c → SameMem k m n → Covers k m
     → traceOf b i t a m k ≡ traceOf b i t c n k
 unfolding traceOf
 trace-same zero i t a c m n k s mem each = refl
@@ -104,13 +104,13 @@ form-same s =
     (s .rest)
     (bit-over (s .psw) 12 (lit≤ tt))
 
-pub judge-same : (b : ℕ) (t : List ℕ) {a c : State} {m n k : List ℕ} → Same a c → SameMem k m n → judge b t a m k ≡ judge b t c n k
+pub judge-same : (b : ℕ) (t : List ℕ) {a c : State} {m n : List ℕ} {k : Marks} → Same a c → SameMem k m n → judge b t a m k ≡ judge b t c n k
 unfolding judge
 judge-same b t {k = k} s mem =
     ap₂ (λ (l : ℕ) (x : Bool).
     cond (badLength l) (Judged.Refused Reply.MemoryLength)
-    (cond (not (eqb (length k) l)) (Judged.Refused Reply.MarkLength)
-    (cond (badMark k) (Judged.Refused Reply.MarkByte)
+    (cond (badRoom l k) (Judged.Refused Reply.MarkLength)
+    (cond (badMark l k) (Judged.Refused Reply.MarkPastEnd)
     (cond x (Judged.Refused Reply.Form)
     (cond (ltb (length t) b) (Judged.Refused Reply.TapeLength)
     (cond (anyAbove 63 (take b t)) (Judged.Refused Reply.TapeByte)
@@ -124,15 +124,13 @@ measured true w r q x e = let z : _≡_ {A = ℕ} 0 1 = cc in absurd (omega arit
 measured false true r q x e = let z : _≡_ {A = ℕ} 0 1 = cc in absurd (omega arith)
 measured false false r q x e = refl
 
-judged-each : (b : ℕ) (t : List ℕ) (a : State) (m k : List ℕ) → judge b t a m k ≡ Judged.Good → length m ≡ length k
+judged-each : (b : ℕ) (t : List ℕ) (a : State) (m : List ℕ) (k : Marks) → judge b t a m k ≡ Judged.Good → Covers k m
 unfolding judge
-judged-each b t a m k e =
-    let u : Bool = eqb (length k) (length m) in
-    sym (eqb-true (length k) (length m) (not-false u (measured (badLength (length m)) (not u) Reply.MemoryLength Reply.MarkLength _ e)))
+judged-each b t a m k e = room-has (length m) k (measured (badLength (length m)) (badRoom (length m) k) Reply.MemoryLength Reply.MarkLength _ e)
 
 -- ---- the runs
 
-module _ (b : ℕ) (t : List ℕ) (a c : State) (m n k : List ℕ) (s : Same a c) (mem : SameMem k m n) where
+module _ (b : ℕ) (t : List ℕ) (a c : State) (m n : List ℕ) (k : Marks) (s : Same a c) (mem : SameMem k m n) where
   pub ends-same : SameFinal (runOf b t a m k) (runOf b t c n k)
   unfolding runOf
   ends-same =

@@ -6,7 +6,7 @@ use mathlib.Core.Bool.{Bool, true, false, cond, not, _&&_}
 use mathlib.Core.List.{List}
 use native.Mathlib.Omega.{arith}
 use lib.Dec.{ltb, eqb, leb, lit≤}
-use lib.ListN.{length, getD}
+use lib.ListN.{getD}
 use Rattle.word.specs.Bits.{on}
 use Rattle.word.specs.Bytes.{bytesOf}
 use Rattle.word.specs.declared.ByteAddr.{ByteAddr}
@@ -22,7 +22,7 @@ use Rattle.cpu.specs.declared.Control.{Control}
 use Rattle.cpu.specs.declared.Effect.{Effect}
 use Rattle.cpu.specs.declared.Entry.{Entry}
 use Rattle.marks.specs.Marks.{taint, blocked}
-use Rattle.marks.specs.Memory.{markedAt}
+use Rattle.marks.specs.Memory.{Marks, markedAt}
 use Rattle.marks.specs.declared.Flags.{Flags}
 use Rattle.marks.specs.declared.Taint.{Taint}
 use Rattle.instruction.specs.Fetch.{halfAt, afterHalf, fetchOf}
@@ -46,7 +46,7 @@ use Rattle.secrecy.specs.Same.{SamePsw, SameControl, SameList, SameMem}
 use Rattle.secrecy.proofs.Psw.{bit-under, bit-over}
 use Rattle.secrecy.proofs.Control.{pc-same, onwards, passes, entries, breaks, watches}
 use Rattle.secrecy.proofs.Exec.{SameEffect, exec-same, taint-same, reach-same}
-use Rattle.secrecy.proofs.Memory.{loaded, stored, stored-each}
+use Rattle.secrecy.proofs.Memory.{Covers, loaded, stored, covers}
 
 -- ---- the relations
 
@@ -58,14 +58,15 @@ pub record SameDone (d e : Done) : Type 0 where
   pub value : d .mark ≡ false → d .value ≡ e .value
 
 -- an instruction in both runs, with its data address, which shows if it is a bus error; a marked base's does not
-data SameAct : Act → Data → Act → Data → Type 0 where
-  marked : (p q : Data) → SameAct (Act.Halted Halt.MarkedOperand) p (Act.Halted Halt.MarkedOperand) q
-  misses : (p : Data) → SameAct (Act.Halted Halt.DataOutside) p (Act.Halted Halt.DataOutside) p
-  does : {e g : Effect} (t : Taint) (r : Reach) (p : Data) → SameEffect t e g → SameAct (Act.Does e t r) p (Act.Does g t r) p
+-- and what it reaches in memory m lies inside
+data SameAct (m : List ℕ) : Act → Data → Act → Data → Type 0 where
+  marked : (p q : Data) → SameAct m (Act.Halted Halt.MarkedOperand) p (Act.Halted Halt.MarkedOperand) q
+  misses : (p : Data) → SameAct m (Act.Halted Halt.DataOutside) p (Act.Halted Halt.DataOutside) p
+  does : {e g : Effect} (t : Taint) (r : Reach) (p : Data) → outside r m ≡ false → SameEffect t e g → SameAct m (Act.Does e t r) p (Act.Does g t r) p
 
 pub data SameStep : Stepped → Stepped → Type 0 where
   stops : (r : Reply) → SameStep (stopped r) (stopped r)
-  goes : {d e : Done} {m n k : List ℕ} (x : Line) → SameDone d e → SameMem k m n → length m ≡ length k
+  goes : {d e : Done} {m n : List ℕ} {k : Marks} (x : Line) → SameDone d e → SameMem k m n → Covers k m
       → SameStep (completed d m k x) (completed e n k x)
 
 -- ---- the choice
@@ -103,12 +104,12 @@ unless : {A : Type 0} (t : Bool) (x y z : A) → (t ≡ false → y ≡ z) → c
 unless true x y z f = refl
 unless false x y z f = f refl
 
-module _ {k m n : List ℕ} (s : SameMem k m n) (each : length m ≡ length k) where
+module _ {k : Marks} {m n : List ℕ} (s : SameMem k m n) where
   half-same : (a : ByteAddr) → halfOf a m k ≡ halfOf a n k
   unfolding halfOf halfAt
   half-same a =
       ap₂ (λ (l : ℕ) (x : Half). cond (not (leb (a .0 + 2) l)) (Half.Halted Halt.FetchOutside) x) (s .long)
-      (unless (markedAt Width.Half k a) (Half.Halted Halt.FetchMarked) _ _ (λ e. ap Half.Bits (loaded s each Width.Half a e)))
+      (unless (markedAt Width.Half k a) (Half.Halted Halt.FetchMarked) _ _ (λ e. ap Half.Bits (loaded s Width.Half a e)))
 
   rest-same : (d : Kind) (h : ℕ) (a : ByteAddr) → restBy d h a m k ≡ restBy d h a n k
   unfolding restBy secondHalf
@@ -128,7 +129,7 @@ module _ {k m n : List ℕ} (s : SameMem k m n) (each : length m ≡ length k) w
 
 -- ---- memory
 
-module _ {k m n : List ℕ} (s : SameMem k m n) (each : length m ≡ length k) where
+module _ {k : Marks} {m n : List ℕ} (s : SameMem k m n) where
   outside-same : (r : Reach) → outside r m ≡ outside r n
   outside-same Reach.Nowhere = refl
   outside-same (Reach.Reads w a) = ap (λ (l : ℕ). not (leb (a .0 + bytesOf w) l)) (s .long)
@@ -137,20 +138,26 @@ module _ {k m n : List ℕ} (s : SameMem k m n) (each : length m ≡ length k) w
 
   loaded-same : (r : Reach) → loadedMark r k ≡ false → loadedFrom r m ≡ loadedFrom r n
   loaded-same Reach.Nowhere h = refl
-  loaded-same (Reach.Reads w a) h = loaded s each w a h
+  loaded-same (Reach.Reads w a) h = loaded s w a h
   loaded-same (Reach.Writes w a) h = refl
   loaded-same (Reach.Raises n) h = refl
 
-  stored-same : (r : Reach) (b : Bool) (v x : ℕ) → (b ≡ false → v ≡ x) → SameMem (markedTo r b k) (storedTo r v m) (storedTo r x n)
-  stored-same Reach.Nowhere b v x f = s
-  stored-same (Reach.Reads w a) b v x f = s
-  stored-same (Reach.Writes w a) b v x f = stored s each w a b v x f
-  stored-same (Reach.Raises n) b v x f = s
+-- "not outside" is inside
+lies : (t : Bool) → not t ≡ false → t ≡ true
+lies true e = refl
+lies false e = let z : _≡_ {A = ℕ} 0 1 = cc in absurd (omega arith)
 
-  each-same : (r : Reach) (b : Bool) (v : ℕ) → length (storedTo r v m) ≡ length (markedTo r b k)
+module _ {k : Marks} {m n : List ℕ} (s : SameMem k m n) (each : Covers k m) where
+  stored-same : (r : Reach) (b : Bool) (v x : ℕ) → outside r m ≡ false → (b ≡ false → v ≡ x) → SameMem (markedTo r b k) (storedTo r v m) (storedTo r x n)
+  stored-same Reach.Nowhere b v x o f = s
+  stored-same (Reach.Reads w a) b v x o f = s
+  stored-same (Reach.Writes w a) b v x o f = stored s each w a b v x (lies _ o) f
+  stored-same (Reach.Raises n) b v x o f = s
+
+  each-same : (r : Reach) (b : Bool) (v : ℕ) → Covers (markedTo r b k) (storedTo r v m)
   each-same Reach.Nowhere b v = each
   each-same (Reach.Reads w a) b v = each
-  each-same (Reach.Writes w a) b v = stored-each w k m a b v each
+  each-same (Reach.Writes w a) b v = covers s each w a b v
   each-same (Reach.Raises n) b v = each
 
 -- ---- an instruction
@@ -181,18 +188,19 @@ line-same : {f g : Flags} {a b : Control} → SameControl f a b → (r : Reach) 
 unfolding lineOf
 line-same s r e h c = ap₂ (λ (p : ℕ) (x : Entry). record { pc = record { 0 = p }; entry = x; address = dataOf r }) (pc-same s) (entry-same r c)
 
-does-by : {e g : Effect} {t u : Taint} (r : Reach) (p : Data) → t ≡ u → SameEffect t e g → SameAct (Act.Does e t r) p (Act.Does g u r) p
-does-by {e} {g} {t} r p q s = subst (λ (v : Taint). SameAct (Act.Does e t r) p (Act.Does g v r) p) q (does t r p s)
+does-by : {m : List ℕ} {e g : Effect} {t u : Taint} (r : Reach) (p : Data) → outside r m ≡ false → t ≡ u → SameEffect t e g → SameAct m (Act.Does e t r) p (Act.Does g u r) p
+does-by {m} {e} {g} {t} r p o q s = subst (λ (v : Taint). SameAct m (Act.Does e t r) p (Act.Does g v r) p) q (does t r p o s)
 
 -- "data outside" answers the same in both runs
-choose : {a b : Act} (p : Data) (t u : Bool) → t ≡ u → SameAct a p b p → SameAct (cond t (Act.Halted Halt.DataOutside) a) p (cond u (Act.Halted Halt.DataOutside) b) p
+choose : {m : List ℕ} {a b : Act} (p : Data) (t u : Bool) → t ≡ u → (t ≡ false → SameAct m a p b p)
+    → SameAct m (cond t (Act.Halted Halt.DataOutside) a) p (cond u (Act.Halted Halt.DataOutside) b) p
 choose p true true e s = misses p
-choose p false false e s = s
+choose p false false e s = s refl
 choose p true false e s = let z : _≡_ {A = ℕ} 0 1 = cc in absurd (omega arith)
 choose p false true e s = let z : _≡_ {A = ℕ} 0 1 = cc in absurd (omega arith)
 
-module _ {km : List Bool} {ra rb : List ℕ} (regs : SameList false km ra rb) {f : Flags} {a b : Control} (s : SameControl f a b) {k m n : List ℕ} (mem : SameMem k m n)
-    (each : length m ≡ length k) where
+module _ {km : List Bool} {ra rb : List ℕ} (regs : SameList false km ra rb) {f : Flags} {a b : Control} (s : SameControl f a b) {k : Marks} {m n : List ℕ} (mem : SameMem k m n)
+    (each : Covers k m) where
   -- the two states
   abbrev one : State
   one = record { regs = ra; marks = km; flags = f; control = a }
@@ -201,7 +209,7 @@ module _ {km : List Bool} {ra rb : List ℕ} (regs : SameList false km ra rb) {f
   other = record { regs = rb; marks = km; flags = f; control = b }
 
   act-same : (i : Instr) (x y : ℕ)
-      → SameAct (actOf i (valueAt one x) (valueAt one y) f a m k) (dataOf (reachOf i (getD ra y 0) a))
+      → SameAct m (actOf i (valueAt one x) (valueAt one y) f a m k) (dataOf (reachOf i (getD ra y 0) a))
       (actOf i (valueAt other x) (valueAt other y) f b n k)
       (dataOf (reachOf i (getD rb y 0) b))
   unfolding actOf
@@ -223,11 +231,11 @@ module _ {km : List Bool} {ra rb : List ℕ} (regs : SameList false km ra rb) {f
           cond (outside r n) (Act.Halted Halt.DataOutside)
           (Act.Does (exec i (getD rb x 0) (getD rb y 0) (loadedFrom r n) b) (taint i mx my (loadedMark r k) (tf b) f) r)
 
-      at-reach : blocked i my f ≡ false → (r : Reach) → SameAct (first r) (dataOf r) (second r) (dataOf r)
+      at-reach : blocked i my f ≡ false → (r : Reach) → SameAct m (first r) (dataOf r) (second r) (dataOf r)
       at-reach h r =
-          choose (dataOf r) (outside r m) (outside r n) (outside-same mem each r)
-          (does-by r (dataOf r) (taint-same i mx my (loadedMark r k) s)
-          (exec-same i mx my (loadedMark r k) _ _ _ _ _ _ (regs .equal x) (regs .equal y) (loaded-same mem each r) s h))
+          choose (dataOf r) (outside r m) (outside r n) (outside-same mem r)
+          (λ o. does-by r (dataOf r) o (taint-same i mx my (loadedMark r k) s)
+          (exec-same i mx my (loadedMark r k) _ _ _ _ _ _ (regs .equal x) (regs .equal y) (loaded-same mem r) s h))
 
       here : Reach
       here = reachOf i (getD ra y 0) a
@@ -236,10 +244,10 @@ module _ {km : List Bool} {ra rb : List ℕ} (regs : SameList false km ra rb) {f
       there = reachOf i (getD rb y 0) b
 
       go : (t : Bool) → blocked i my f ≡ t
-          → SameAct (cond t (Act.Halted Halt.MarkedOperand) (first here)) (dataOf here) (cond t (Act.Halted Halt.MarkedOperand) (second there)) (dataOf there)
+          → SameAct m (cond t (Act.Halted Halt.MarkedOperand) (first here)) (dataOf here) (cond t (Act.Halted Halt.MarkedOperand) (second there)) (dataOf there)
       go true h = marked (dataOf here) (dataOf there)
       go false h =
-          subst (λ (r : Reach). SameAct (first here) (dataOf here) (second r) (dataOf r)) (reach-same i my (getD ra y 0) (getD rb y 0) (regs .equal y) s h)
+          subst (λ (r : Reach). SameAct m (first here) (dataOf here) (second r) (dataOf r)) (reach-same i my (getD ra y 0) (getD rb y 0) (regs .equal y) s h)
           (at-reach h here)
 
   -- ---- the step
@@ -261,13 +269,13 @@ module _ {km : List Bool} {ra rb : List ℕ} (regs : SameList false km ra rb) {f
   halted Halt.MarkedOperand p = stops Reply.MarkedOperand
   halted Halt.DataOutside p = enters-same Entry.DataError p (onwards s 2)
 
-  acted : {A B : Act} {p q : Data} → SameAct A p B q → (x : ℕ) → SameStep (actStep A p (valueAt one x) f a m k) (actStep B q (valueAt other x) f b n k)
+  acted : {A B : Act} {p q : Data} → SameAct m A p B q → (x : ℕ) → SameStep (actStep A p (valueAt one x) f a m k) (actStep B q (valueAt other x) f b n k)
   acted (marked p q) x = stops Reply.MarkedOperand
   acted (misses p) x = halted Halt.DataOutside p
-  acted (does {e} {g} t r p q) x =
+  acted (does {e} {g} t r p o q) x =
       subst (λ (l : Line). SameStep (actStep (Act.Does e t r) p (valueAt one x) f a m k) (completed (doneOf b g t r) (storedTo r (getD rb x 0) n) (markedTo r (getD km x false) k) l))
       (line-same s r e g (q .control))
-      (goes (lineOf a e r) (done-same s t r q) (stored-same mem each r _ _ _ (regs .equal x)) (each-same mem each r _ _))
+      (goes (lineOf a e r) (done-same s t r q) (stored-same mem each r _ _ _ o (regs .equal x)) (each-same mem each r _ _))
 
   fetched : (x : Fetched) → SameStep (fetchStep x one m k) (fetchStep x other n k)
   unfolding instrStep
@@ -278,7 +286,7 @@ module _ {km : List Bool} {ra rb : List ℕ} (regs : SameList false km ra rb) {f
   happened (Event.Enter e) = enters-same e Data.Nowhere s
   happened Event.Instruction =
       subst (λ (x : Fetched). SameStep (fetchStep (fetchOf (pcOf a) m k) one m k) (fetchStep x other n k))
-      (ap (λ (p : ℕ). fetchOf (record { 0 = p }) m k) (pc-same s) ∙ fetch-same mem each (pcOf b))
+      (ap (λ (p : ℕ). fetchOf (record { 0 = p }) m k) (pc-same s) ∙ fetch-same mem (pcOf b))
       (fetched (fetchOf (pcOf a) m k))
 
   pub step-same : (t : ℕ) → SameStep (stepOf t one m k) (stepOf t other n k)

@@ -8,6 +8,7 @@ use lib.ListN.{length, getD}
 use Rattle.word.specs.Bits.{on, put}
 use Rattle.cpu.specs.Control.{withPsw}
 use Rattle.cpu.specs.declared.Control.{Control}
+use Rattle.marks.specs.Memory.{Marks, markAt}
 use Rattle.marks.specs.declared.Flags.{Flags}
 use Rattle.machine.specs.Run.{Final}
 use Rattle.machine.specs.declared.State.{State}
@@ -32,9 +33,10 @@ pub record SameList {M : Type 0} (z : M) (k : List M) (a b : List ℕ) : Type 0 
   pub long : length a ≡ length b
   pub equal : (i : ℕ) → getD k i z ≡ z → getD a i 0 ≡ getD b i 0
 
--- memory, where mark byte 0 is unmarked
-abbrev pub SameMem : List ℕ → List ℕ → List ℕ → Type 0
-SameMem k m n = SameList 0 k m n
+-- memory with a mark for each byte: the same
+pub record SameMem (k : Marks) (m n : List ℕ) : Type 0 where
+  pub long : length m ≡ length n
+  pub equal : (i : ℕ) → markAt k i ≡ false → getD m i 0 ≡ getD n i 0
 
 -- Two states with equal marks. Each register has a mark, since both arrays have 16 places.
 pub record Same (a b : State) : Type 0 where

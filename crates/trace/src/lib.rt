@@ -3,6 +3,7 @@ ghost use mathlib.Core.Path.{_≡_};
 ghost use mathlib.Core.Bool.{false};
 ghost use lib.ListN.{getD};
 ghost use Rattle.cpu.specs.Control.{pcOf};
+ghost use Rattle.marks.specs.Memory.{bits};
 ghost use Rattle.instruction.specs.Fetch.{fetchOf};
 ghost use Rattle.instruction.specs.Act.{reachOf};
 ghost use Rattle.machine.specs.Step.{dataOf, instrStep, fetchStep, stepOf};
@@ -124,7 +125,7 @@ fn show_act(a: Act, address: Data, c: Control) -> Seen
 }
 
 fn show_instr(i: Instr, s: State, m: &[u8], mk: &[u8]) -> Seen
-    ensures { λ r. ⌜ r ≡ seenIn (instrStep i s (now (m .entry)) (now (mk .entry))) ⌝ }
+    ensures { λ r. ⌜ r ≡ seenIn (instrStep i s (now (m .entry)) (bits (now (mk .entry)))) ⌝ }
 {
     let o = cpu::sources_of(i);
     let regs = s.regs;
@@ -139,7 +140,7 @@ fn show_instr(i: Instr, s: State, m: &[u8], mk: &[u8]) -> Seen
 }
 
 fn show_fetch(s: State, m: &[u8], mk: &[u8]) -> Seen
-    ensures { λ r. ⌜ r ≡ seenIn (fetchStep (fetchOf (pcOf (s .control)) (now (m .entry)) (now (mk .entry))) s (now (m .entry)) (now (mk .entry))) ⌝ }
+    ensures { λ r. ⌜ r ≡ seenIn (fetchStep (fetchOf (pcOf (s .control)) (now (m .entry)) (bits (now (mk .entry)))) s (now (m .entry)) (bits (now (mk .entry)))) ⌝ }
 {
     let f = instruction::fetch::fetch(ByteAddr(s.control.pc), m, mk);
     match f {
@@ -149,7 +150,7 @@ fn show_fetch(s: State, m: &[u8], mk: &[u8]) -> Seen
 }
 
 pub fn show(t: u32, s: State, m: &[u8], mk: &[u8]) -> Seen
-    ensures { λ r. ⌜ r ≡ seenIn (stepOf t s (now (m .entry)) (now (mk .entry))) ⌝ }
+    ensures { λ r. ⌜ r ≡ seenIn (stepOf t s (now (m .entry)) (bits (now (mk .entry)))) ⌝ }
 {
     let c = s.control;
     let e = machine::choose(t, c);

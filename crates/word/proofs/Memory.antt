@@ -4,16 +4,15 @@ use Prim.Native.Nat.{ℕ, zero, suc, _+_, _*_, _-_, _/_, _%_, _^_, _<_, _≤_}
 use mathlib.Core.Path.{_≡_, refl, sym, ap, ap₂, subst, _∙_}
 use mathlib.Core.List.{List}
 use mathlib.Core.Bool.{Bool, true, false, cond, _||_}
-use native.Mathlib.Nat.{lt-irrefl, not-suc-le-zero, mod-one}
+use native.Mathlib.Nat.{lt-irrefl, mod-one}
 use native.Mathlib.Numerals.{add-one}
 use native.Mathlib.Omega.{arith}
 use lib.Arith.{digits-lt}
 use lib.Pow.{pow-add, mod-pow-add}
-use lib.Dec.{ltb, eqb}
-use borrow.Author.Tests.{eqb-true, eqb-false}
+use lib.Dec.{ltb}
 use lib.ListN.{length, getD, set, length-set, drop, drop-of-length-le}
 use lib.Seq.{getD-set-same, getD-set-other, set-comm, drop-cons}
-use Rattle.word.specs.Bytes.{inside, load, store, fill, any, loadOf, anyAbove}
+use Rattle.word.specs.Bytes.{inside, load, store, loadOf, anyAbove}
 use Rattle.word.specs.declared.ByteAddr.{ByteAddr}
 use Rattle.word.specs.declared.Width.{Width}
 
@@ -21,14 +20,6 @@ use Rattle.word.specs.declared.Width.{Width}
 pub load-more : (i : ℕ) (m : List ℕ) (a : ℕ) → load (i + 1) m a ≡ load i m a * 256 + getD m (a + i) 0
 unfolding load
 load-more i m a = rw add-one
-
-pub fill-more : (i : ℕ) (m : List ℕ) (a b : ℕ) → fill (i + 1) m a b ≡ set (fill i m a b) (a + i) b
-unfolding fill
-fill-more i m a b = rw add-one
-
-pub any-more : (i : ℕ) (m : List ℕ) (a : ℕ) → any (i + 1) m a ≡ (any i m a || ltb 0 (getD m (a + i) 0))
-unfolding any
-any-more i m a = rw add-one
 
 pub store-more : (i : ℕ) (m : List ℕ) (a v : ℕ) → 0 < i → store i m a v ≡ store (i - 1) (set m (a + (i - 1)) (v % 256)) a (v / 256)
 unfolding store
@@ -41,14 +32,6 @@ store-more (suc n) m a v h =
 pub load-none : (m : List ℕ) (a : ℕ) → load 0 m a ≡ 0
 unfolding load
 load-none m a = refl
-
-pub fill-none : (m : List ℕ) (a b : ℕ) → fill 0 m a b ≡ m
-unfolding fill
-fill-none m a b = refl
-
-pub any-none : (m : List ℕ) (a : ℕ) → any 0 m a ≡ false
-unfolding any
-any-none m a = refl
 
 pub store-none : (k : ℕ) (m : List ℕ) (a v : ℕ) → k ≤ 0 → store k m a v ≡ m
 unfolding store
@@ -68,11 +51,6 @@ unfolding store
 store-length zero m a v = refl
 store-length (suc n) m a v = store-length n (set m (a + n) (v % 256)) a (v / 256) ∙ length-set m (a + n) (v % 256)
 
-pub fill-length : (n : ℕ) (m : List ℕ) (a b : ℕ) → length (fill n m a b) ≡ length m
-unfolding fill
-fill-length zero m a b = refl
-fill-length (suc n) m a b = length-set (fill n m a b) (a + n) b ∙ fill-length n m a b
-
 pub store-kept : (n : ℕ) (m : List ℕ) (a v j : ℕ) → ((i : ℕ) → i < n → j ≡ a + i → ⊥) → getD (store n m a v) j 0 ≡ getD m j 0
 unfolding store
 store-kept zero m a v j h = refl
@@ -80,23 +58,11 @@ store-kept (suc n) m a v j h =
     store-kept n (set m (a + n) (v % 256)) a (v / 256) j (λ i l. h i (omega arith))
     ∙ getD-set-other m (a + n) j (v % 256) 0 (h n (omega arith))
 
-pub fill-kept : (n : ℕ) (m : List ℕ) (a b j : ℕ) → ((i : ℕ) → i < n → j ≡ a + i → ⊥) → getD (fill n m a b) j 0 ≡ getD m j 0
-unfolding fill
-fill-kept zero m a b j h = refl
-fill-kept (suc n) m a b j h =
-    getD-set-other (fill n m a b) (a + n) j b 0 (h n (omega arith)) ∙ fill-kept n m a b j (λ i l. h i (omega arith))
-
 -- Reading depends on the bytes that are read alone.
 pub load-same : (n : ℕ) (m k : List ℕ) (a : ℕ) → ((i : ℕ) → i < n → getD m (a + i) 0 ≡ getD k (a + i) 0) → load n m a ≡ load n k a
 unfolding load
 load-same zero m k a h = refl
 load-same (suc n) m k a h = ap₂ (λ (x y : ℕ). x * 256 + y) (load-same n m k a (λ i l. h i (omega arith))) (h n (omega arith))
-
-pub any-same : (n : ℕ) (m k : List ℕ) (a : ℕ) → ((i : ℕ) → i < n → getD m (a + i) 0 ≡ getD k (a + i) 0) → any n m a ≡ any n k a
-unfolding any
-any-same zero m k a h = refl
-any-same (suc n) m k a h =
-    ap₂ (λ (x : Bool) (y : ℕ). x || ltb 0 y) (any-same n m k a (λ i l. h i (omega arith))) (h n (omega arith))
 
 -- What was stored is read back: the low n bytes of v.
 pub load-store : (n : ℕ) (m : List ℕ) (a v : ℕ) → a + n ≤ length m → load n (store n m a v) a ≡ v % 2 ^ (8 * n)
@@ -111,22 +77,6 @@ load-store (suc n) m a v h =
     = load-store n k a (v / 256) (subst (λ (l : ℕ). a + n ≤ l) (sym (length-set m (a + n) (v % 256))) (omega arith)) in
     ap₂ (λ (x y : ℕ). x * 256 + y) rest last
     ∙ sym (ap (λ (x : ℕ). v % 2 ^ x) e ∙ mod-pow-add v (8 * n) 8)
-
--- Every byte that was filled holds the value.
-pub fill-at : (n : ℕ) (m : List ℕ) (a b i : ℕ) → i < n → a + n ≤ length m → getD (fill n m a b) (a + i) 0 ≡ b
-unfolding fill
-fill-at zero m a b i l h = absurd (not-suc-le-zero l)
-fill-at (suc n) m a b i l h = go (eqb i n) refl (λ k. fill-at n m a b i k (omega arith))
-  where
-    inside : a + n < length (fill n m a b)
-    inside = subst (λ (k : ℕ). a + n < k) (sym (fill-length n m a b)) (omega arith)
-
-    go : (t : Bool) → eqb i n ≡ t → (i < n → getD (fill n m a b) (a + i) 0 ≡ b) → getD (set (fill n m a b) (a + n) b) (a + i) 0 ≡ b
-    go true e f =
-        ap (λ (k : ℕ). getD (set (fill n m a b) (a + n) b) (a + k) 0) (eqb-true i n e) ∙ getD-set-same (fill n m a b) (a + n) b 0 inside
-    go false e f =
-        let q = eqb-false i n e in
-        getD-set-other (fill n m a b) (a + n) (a + i) b 0 (λ (p : a + i ≡ a + n). q (omega arith)) ∙ f (omega (arith, q))
 
 -- Stores to places that do not meet may change places.
 store-set : (n : ℕ) (m : List ℕ) (a v j x : ℕ) → ((i : ℕ) → i < n → j ≡ a + i → ⊥) → store n (set m j x) a v ≡ set (store n m a v) j x

@@ -27,28 +27,12 @@ unfoldable pub store : ℕ → List ℕ → ℕ → ℕ → List ℕ
 store zero m a v = m
 store (suc n) m a v = store n (set m (a + n) (v % 256)) a (v / 256)
 
--- m with the n bytes at a each made b
-unfoldable pub fill : ℕ → List ℕ → ℕ → ℕ → List ℕ
-fill zero m a b = m
-fill (suc n) m a b = set (fill n m a b) (a + n) b
-
--- a byte that is not 0 among the n at a
-unfoldable pub any : ℕ → List ℕ → ℕ → Bool
-any zero m a = false
-any (suc n) m a = any n m a || ltb 0 (getD m (a + n) 0)
-
 -- The same by width, for every address: what does not lie inside reads as 0, and writing there changes nothing.
 abbrev pub loadOf : Width → List ℕ → ByteAddr → ℕ
 loadOf w m a = cond (inside m a (bytesOf w)) (load (bytesOf w) m (a .0)) 0
 
 abbrev pub storeOf : Width → List ℕ → ByteAddr → ℕ → List ℕ
 storeOf w m a v = cond (inside m a (bytesOf w)) (store (bytesOf w) m (a .0) v) m
-
-abbrev pub fillOf : Width → List ℕ → ByteAddr → ℕ → List ℕ
-fillOf w m a b = cond (inside m a (bytesOf w)) (fill (bytesOf w) m (a .0) b) m
-
-abbrev pub anyOf : Width → List ℕ → ByteAddr → Bool
-anyOf w m a = cond (inside m a (bytesOf w)) (any (bytesOf w) m (a .0)) false
 
 -- a number above n in a list
 unfoldable pub anyAbove : ℕ → List ℕ → Bool

@@ -2,7 +2,7 @@
 ghost use mathlib.Core.Path.{_≡_};
 ghost use Prim.Native.Nat.{_≤_};
 ghost use mathlib.Core.Bool.{false, cond};
-ghost use Rattle.word.specs.Bytes.{bytesOf, inside, load, store, fill, any, loadOf, storeOf, fillOf, anyOf, anyAbove};
+ghost use Rattle.word.specs.Bytes.{bytesOf, inside, load, store, loadOf, storeOf, anyAbove};
 use crate::ByteAddr;
 use crate::Width;
 use crate::logic::either;
@@ -61,40 +61,6 @@ fn store_bytes(m: &mut [u8], at: u32, n: u32, v: u32)
     }
 }
 
-fn fill_bytes(m: &mut [u8], at: u32, n: u32, b: u8)
-    requires { ⌜ n ≤ 4 ⌝ }
-    ensures { λ _. ⌜ now (m .exit) ≡ cond (inside (now (m .entry)) (record { 0 = at }) n) (fill n (now (m .entry)) at b) (now (m .entry)) ⌝ }
-{
-    let a = at as usize;
-    let k = n as usize;
-    if m.len() < a + k {
-        return;
-    }
-    let mut i: usize = 0;
-    while i < k {
-        m[a + i] = b;
-        i += 1;
-    }
-}
-
-fn any_bytes(m: &[u8], at: u32, n: u32) -> bool
-    requires { ⌜ n ≤ 4 ⌝ }
-    ensures { λ r. ⌜ r ≡ cond (inside (now (m .entry)) (record { 0 = at }) n) (any n (now (m .entry)) at) false ⌝ }
-{
-    let a = at as usize;
-    let k = n as usize;
-    if m.len() < a + k {
-        return false;
-    }
-    let mut found = false;
-    let mut i: usize = 0;
-    while i < k {
-        found = either(found, 0 < m[a + i]);
-        i += 1;
-    }
-    found
-}
-
 pub fn load(w: Width, m: &[u8], at: ByteAddr) -> u32
     ensures { λ r. ⌜ r ≡ loadOf w (now (m .entry)) at ⌝ }
 {
@@ -114,30 +80,6 @@ pub fn store(w: Width, m: &mut [u8], at: ByteAddr, v: u32)
         Width::Byte => store_bytes(m, a, 1, v),
         Width::Half => store_bytes(m, a, 2, v),
         Width::Word => store_bytes(m, a, 4, v),
-    }
-}
-
-// The same over marks: every byte of the access made b.
-pub fn fill(w: Width, m: &mut [u8], at: ByteAddr, b: u8)
-    ensures { λ _. ⌜ now (m .exit) ≡ fillOf w (now (m .entry)) at b ⌝ }
-{
-    let a = at.0;
-    match w {
-        Width::Byte => fill_bytes(m, a, 1, b),
-        Width::Half => fill_bytes(m, a, 2, b),
-        Width::Word => fill_bytes(m, a, 4, b),
-    }
-}
-
-// A byte of the access that is not 0.
-pub fn has_any(w: Width, m: &[u8], at: ByteAddr) -> bool
-    ensures { λ r. ⌜ r ≡ anyOf w (now (m .entry)) at ⌝ }
-{
-    let a = at.0;
-    match w {
-        Width::Byte => any_bytes(m, a, 1),
-        Width::Half => any_bytes(m, a, 2),
-        Width::Word => any_bytes(m, a, 4),
     }
 }
 

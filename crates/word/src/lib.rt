@@ -6,9 +6,7 @@ mod bits;
 mod logic;
 
 pub use access::bytes;
-pub use access::fill;
 pub use access::has_above;
-pub use access::has_any;
 pub use access::is_inside;
 pub use access::load;
 pub use access::store;

@@ -7,7 +7,7 @@ use mathlib.Core.List.{List, [], _∷_}
 use native.Mathlib.Omega.{arith}
 use lib.ListN.{set, getD}
 use Rattle.word.specs.Bits.{put}
-use Rattle.word.specs.Bytes.{load, store, any, anyAbove}
+use Rattle.word.specs.Bytes.{load, store, anyAbove}
 use Rattle.word.specs.declared.Width.{Width}
 use Rattle.isa.specs.Codes.{kindOf}
 use Rattle.isa.specs.Decode.{operandsOf, decodeOf}
@@ -18,6 +18,7 @@ use Rattle.cpu.specs.declared.Control.{Control}
 use Rattle.cpu.specs.Entries.{entered, isBreak, fallen, passed}
 use Rattle.cpu.specs.Exec.{onward, carried, written, makes, exec, sourcesOf, dataAddress}
 use Rattle.cpu.specs.Cycles.{shiftCost, aluCost, costOf, entryCost}
+use Rattle.marks.specs.Memory.{markAt, anyMark}
 use Rattle.instruction.specs.Fetch.{halfAt, fetchOf}
 use Rattle.instruction.specs.Act.{reachOf}
 use Rattle.machine.specs.State.{freshState, outOfForm}
@@ -27,7 +28,7 @@ use Rattle.machine.specs.declared.State.{State}
 use Rattle.secrecy.specs.Same.{Same, SameFinal}
 use Rattle.wrong.specs.Statements.{TwoRuns}
 use Rattle.wrong.specs.Rules.{Rules, unmarked, actWith, instrStepWith, stepWith, stepsWith, runWith}
-use Rattle.wrong.proofs.Runs.{zeros}
+use Rattle.wrong.proofs.Runs.{zeros, noMarks}
 
 -- r1 has the value v and is marked; all else is fresh
 abbrev secret : ℕ → State
@@ -55,11 +56,11 @@ secrets-same v w = record {
 module _ (q : Rules) where
   -- memory p and no byte marked, one step, and r1 is v
   abbrev stepped : List ℕ → ℕ → Final
-  stepped p v = runWith q 1 zeros (secret v) p zeros
+  stepped p v = runWith q 1 zeros (secret v) p noMarks
 
   alike : TwoRuns (runWith q) → (p : List ℕ) (v w : ℕ) → SameFinal (stepped p v) (stepped p w)
   unfolding TwoRuns
-  alike h p v w = h 1 zeros (secret v) (secret w) p p zeros (secrets-same v w) (record { long = refl; equal = λ i e. refl })
+  alike h p v w = h 1 zeros (secret v) (secret w) p p noMarks (secrets-same v w) (record { long = refl; equal = λ i e. refl })
 
   -- ---- mtsfr sfr5,r1: SFR 5 is r1
 
@@ -68,7 +69,7 @@ module _ (q : Rules) where
 
   module _ (goes : q .blocked (Instr.Mtsfr 5 1) true unmarked ≡ false) where
     usreg : (v : ℕ) → stepped mtsfr v .ended .state .control .usreg ≡ v
-    unfolding load any anyAbove kindOf operandsOf decodeOf withPc withSfr entered isBreak fallen passed entryCost withCycles onward written exec makes costOf aluCost sourcesOf halfAt fetchOf reachOf outOfForm chosen doneOf after judge goOn actWith instrStepWith stepWith stepsWith runWith
+    unfolding load anyMark anyAbove kindOf operandsOf decodeOf withPc withSfr entered isBreak fallen passed entryCost withCycles onward written exec makes costOf aluCost sourcesOf halfAt fetchOf reachOf outOfForm chosen doneOf after judge goOn actWith instrStepWith stepWith stepsWith runWith
     usreg v = rw goes
 
     pub mtsfr-leaks : TwoRuns (runWith q) → ⊥
@@ -86,7 +87,7 @@ module _ (q : Rules) where
       (keeps : q .taint (Instr.Alu AluOp.Sub 0 1) false true false false unmarked .flags .cy ≡ false) where
     borrows : (cy (stepped sub 0 .ended .state .control) ≡ false) × (cy (stepped sub 1 .ended .state .control) ≡ true)
         × (stepped sub 0 .ended .state .flags .cy ≡ false)
-    unfolding put load any anyAbove kindOf operandsOf decodeOf withPc withSfr entered isBreak fallen passed entryCost withCycles onward carried exec makes costOf aluCost sourcesOf halfAt fetchOf reachOf outOfForm chosen doneOf after judge goOn actWith instrStepWith stepWith stepsWith runWith
+    unfolding put load anyMark anyAbove kindOf operandsOf decodeOf withPc withSfr entered isBreak fallen passed entryCost withCycles onward carried exec makes costOf aluCost sourcesOf halfAt fetchOf reachOf outOfForm chosen doneOf after judge goOn actWith instrStepWith stepWith stepsWith runWith
     borrows = (rw goes, rw goes, rw goes keeps)
 
     pub sub-leaks : TwoRuns (runWith q) → ⊥
@@ -99,7 +100,7 @@ module _ (q : Rules) where
 
   module _ (goes : q .blocked (Instr.Alu AluOp.Lsl 0 1) true unmarked ≡ false) where
     costs : (stepped lsl 0 .ended .cycles ≡ 2) × (stepped lsl 8 .ended .cycles ≡ 3)
-    unfolding load any anyAbove kindOf operandsOf decodeOf withPc withSfr entered isBreak fallen passed entryCost withCycles onward carried exec makes costOf aluCost shiftCost sourcesOf halfAt fetchOf reachOf outOfForm chosen doneOf after judge goOn actWith instrStepWith stepWith stepsWith runWith
+    unfolding load anyMark anyAbove kindOf operandsOf decodeOf withPc withSfr entered isBreak fallen passed entryCost withCycles onward carried exec makes costOf aluCost shiftCost sourcesOf halfAt fetchOf reachOf outOfForm chosen doneOf after judge goOn actWith instrStepWith stepWith stepsWith runWith
     costs = (rw goes, rw goes)
 
     pub shift-leaks : TwoRuns (runWith q) → ⊥
@@ -113,9 +114,9 @@ module _ (q : Rules) where
   strb = 0xd3 ∷ 0x10 ∷ 0 ∷ 0 ∷ []
 
   module _ (goes : q .blocked (Instr.Store Width.Byte 1 3 0) false unmarked ≡ false)
-      (keeps : getD (q .stored Width.Byte zeros (record { 0 = 3 }) true) 3 0 ≡ 0) where
-    stores : (getD (stepped strb 0 .mem) 3 0 ≡ 0) × (getD (stepped strb 1 .mem) 3 0 ≡ 1) × (getD (stepped strb 0 .marks) 3 0 ≡ 0)
-    unfolding load store any anyAbove kindOf operandsOf decodeOf isBreak sourcesOf dataAddress halfAt fetchOf reachOf outOfForm chosen judge goOn actWith instrStepWith stepWith stepsWith runWith
+      (keeps : markAt (q .stored Width.Byte noMarks (record { 0 = 3 }) true) 3 ≡ false) where
+    stores : (getD (stepped strb 0 .mem) 3 0 ≡ 0) × (getD (stepped strb 1 .mem) 3 0 ≡ 1) × (markAt (stepped strb 0 .marks) 3 ≡ false)
+    unfolding load store anyMark anyAbove kindOf operandsOf decodeOf isBreak sourcesOf dataAddress halfAt fetchOf reachOf outOfForm chosen judge goOn actWith instrStepWith stepWith stepsWith runWith
     stores = (rw goes, rw goes, rw goes keeps)
 
     pub store-leaks : TwoRuns (runWith q) → ⊥

@@ -4,16 +4,17 @@
 -- Assumes nothing.
 use Prim.Native.Nat.{ℕ, min}
 use mathlib.Core.Path.{_≡_, refl, ap}
-use mathlib.Core.Bool.{true, false}
-use mathlib.Core.List.{List}
+use mathlib.Core.Bool.{true, false, true≢false}
+use mathlib.Core.List.{List, [], _∷_}
 use native.Mathlib.Omega.{arith}
-use lib.ListN.{getD, replicate}
+use Rattle.word.specs.Bits.{put}
 use Rattle.word.specs.declared.Width.{Width}
 use Rattle.isa.specs.Encode.{nibsOf, encodeOf}
 use Rattle.isa.specs.declared.AluOp.{AluOp}
 use Rattle.isa.specs.declared.Instr.{Instr}
 use Rattle.cpu.specs.Control.{withPc, withCycles}
 use Rattle.marks.specs.Marks.{taint, aluBlocked, blocked}
+use Rattle.marks.specs.Memory.{Marks, bits, markAt, putMarks}
 use Rattle.instruction.specs.declared.Reply.{Reply}
 use Rattle.machine.specs.State.{freshState}
 use Rattle.machine.specs.Run.{Final, runOf}
@@ -22,7 +23,7 @@ use Rattle.secrecy.proofs.Theorems.{two-runs}
 use Rattle.wrong.specs.Models.{refusesAtOnce, stopsAtOnce, constantReply, changesNothing, firstStepOnly, inventedCount, marksEverything}
 use Rattle.wrong.specs.Statements.{IsRun, TwoRuns}
 use Rattle.wrong.specs.Rules.{Rules, trueRules, runWith, unmarked, begins, mtsfrGoes, shiftGoes, subKeepsCy, storeKeepsMarks}
-use Rattle.wrong.proofs.Runs.{zeros, program, moved-0, moved-on, no-instruction, differs, one-reply}
+use Rattle.wrong.proofs.Runs.{zeros, noMarks, program, moved-0, moved-on, no-instruction, differs, one-reply}
 use Rattle.secrecy.proofs.Control.{cycles-same}
 use Rattle.wrong.proofs.Same.{unless-same, counted-same, steps-same, end-marked}
 use Rattle.wrong.proofs.Rules.{run-true}
@@ -51,17 +52,17 @@ unfolding firstStepOnly withPc withCycles
 first-step-only-out = differs firstStepOnly (λ f. f .ended .state .control .pc) 2 program (rw (moved-on .1, moved-on .0) (λ e. omega arith))
 
 -- any count g that is not the run's on some input, and so the budget for the count
-pub invented-count-out : (g : ℕ → List ℕ → State → List ℕ → List ℕ → ℕ) (b : ℕ) (t : List ℕ) (s : State) (m k : List ℕ)
+pub invented-count-out : (g : ℕ → List ℕ → State → List ℕ → Marks → ℕ) (b : ℕ) (t : List ℕ) (s : State) (m : List ℕ) (k : Marks)
     → (g b t s m k ≡ runOf b t s m k .ended .steps → ⊥) → IsRun (inventedCount g) → ⊥
 unfolding IsRun inventedCount
 invented-count-out g b t s m k apart is = apart (ap (λ (f : Final). f .ended .steps) (is b t s m k))
 
 pub budget-for-count-out : IsRun (inventedCount (λ b t s m k. b)) → ⊥
-budget-for-count-out = invented-count-out (λ b t s m k. b) 1 zeros freshState zeros zeros (rw no-instruction (λ e. omega arith))
+budget-for-count-out = invented-count-out (λ b t s m k. b) 1 zeros freshState zeros noMarks (rw no-instruction (λ e. omega arith))
 
 pub marks-everything-out : IsRun marksEverything → ⊥
-unfolding marksEverything
-marks-everything-out = differs marksEverything (λ f. getD (f .marks) 0 0) 0 program (rw moved-0 (λ e. omega arith))
+unfolding marksEverything putMarks put
+marks-everything-out = differs marksEverything (λ f. markAt (f .marks) 0) 0 program (rw moved-0 true≢false)
 
 -- ---- 2. "Demand 3's two-run part alone would let the first four through, and also a model that marks everything", as it lets runOf through
 
@@ -123,7 +124,7 @@ module _ (q : Rules) where
   sub-must-mark = sub-leaks q
 
   pub store-must-mark : q .blocked (Instr.Store Width.Byte 1 3 0) false unmarked ≡ false
-      → getD (q .stored Width.Byte (replicate 4 0) (record { 0 = 3 }) true) 3 0 ≡ 0 → TwoRuns (runWith q) → ⊥
+      → markAt (q .stored Width.Byte (bits (0 ∷ [])) (record { 0 = 3 }) true) 3 ≡ false → TwoRuns (runWith q) → ⊥
   store-must-mark = store-leaks q
 
 pub mtsfr-goes-leaks : TwoRuns (runWith mtsfrGoes) → ⊥

@@ -4,6 +4,8 @@ use Prim.Native.Nat.{ℕ, min}
 use mathlib.Core.Bool.{true, cond}
 use mathlib.Core.List.{List, map}
 use lib.Dec.{ltb, eqb}
+use lib.ListN.{length}
+use Rattle.marks.specs.Memory.{Marks, putMarks}
 use Rattle.instruction.specs.Reply.{numberOf}
 use Rattle.instruction.specs.declared.Reply.{Reply}
 use Rattle.machine.specs.Run.{Final, final, runOf}
@@ -11,7 +13,7 @@ use Rattle.machine.specs.declared.State.{State}
 
 -- what runOf is: from budget, tape, state, memory and marks to the answer, memory and marks
 abbrev pub Model : Type 0
-Model = ℕ → List ℕ → State → List ℕ → List ℕ → Final
+Model = ℕ → List ℕ → State → List ℕ → Marks → Final
 
 -- ---- an end with one part of it replaced
 
@@ -21,12 +23,13 @@ withReply r f = final r (f .ended .steps) (f .ended .state) (f .mem) (f .marks)
 abbrev pub withSteps : ℕ → Final → Final
 withSteps n f = final (f .ended .reply) n (f .ended .state) (f .mem) (f .marks)
 
--- every register, TF, CY and every byte marked
+-- every register, TF and CY marked
 abbrev pub allMarked : State → State
 allMarked s = record { regs = s .regs; marks = map (λ b. true) (s .marks); flags = record { tf = true; cy = true }; control = s .control }
 
+-- all of these and every byte of memory marked
 abbrev pub withMarks : Final → Final
-withMarks f = final (f .ended .reply) (f .ended .steps) (allMarked (f .ended .state)) (f .mem) (map (λ b. 1) (f .marks))
+withMarks f = final (f .ended .reply) (f .ended .steps) (allMarked (f .ended .state)) (f .mem) (putMarks (length (f .mem)) (f .marks) 0 true)
 
 -- ---- choice by the reply
 
@@ -61,7 +64,7 @@ unfoldable pub firstStepOnly : Model
 firstStepOnly b t s m k = unlessRefused (runOf b t s m k) (counted b (runOf (min 1 b) t s m k))
 
 -- "one with an invented step count": g, from all that is given; all else is right
-unfoldable pub inventedCount : (ℕ → List ℕ → State → List ℕ → List ℕ → ℕ) → Model
+unfoldable pub inventedCount : (ℕ → List ℕ → State → List ℕ → Marks → ℕ) → Model
 inventedCount g b t s m k = withSteps (g b t s m k) (runOf b t s m k)
 
 -- "a model that marks everything": all else is right

@@ -15,7 +15,7 @@ use Rattle.cpu.specs.Control.{pcOf, tf}
 use Rattle.cpu.specs.Exec.{exec, sourcesOf}
 use Rattle.cpu.specs.declared.Control.{Control}
 use Rattle.marks.specs.Marks.{taint, blocked, with}
-use Rattle.marks.specs.Memory.{markAll}
+use Rattle.marks.specs.Memory.{Marks, markAll}
 use Rattle.marks.specs.declared.Flags.{Flags}
 use Rattle.marks.specs.declared.Taint.{Taint}
 use Rattle.instruction.specs.Fetch.{fetchOf}
@@ -38,7 +38,7 @@ use Rattle.wrong.specs.Models.{Model}
 pub record Rules : Type 0 where
   pub blocked : Instr → Bool → Flags → Bool
   pub taint : Instr → Bool → Bool → Bool → Bool → Flags → Taint
-  pub stored : Width → List ℕ → ByteAddr → Bool → List ℕ
+  pub stored : Width → Marks → ByteAddr → Bool → Marks
 
 abbrev pub trueRules : Rules
 trueRules = record { blocked = blocked; taint = taint; stored = markAll }
@@ -48,7 +48,7 @@ unmarked = record { tf = false; cy = false }
 
 -- ---- actOf, markedTo and the step, with the rules q
 
-unfoldable pub actWith : Rules → Instr → Val → Val → Flags → Control → List ℕ → List ℕ → Act
+unfoldable pub actWith : Rules → Instr → Val → Val → Flags → Control → List ℕ → Marks → Act
 actWith q i x y f c m k =
     cond (q .blocked i (y .mark) f) (Act.Halted Halt.MarkedOperand)
     (cond (outside (reachOf i (y .value) c) m) (Act.Halted Halt.DataOutside)
@@ -56,17 +56,17 @@ actWith q i x y f c m k =
     (q .taint i (x .mark) (y .mark) (loadedMark (reachOf i (y .value) c) k) (tf c) f)
     (reachOf i (y .value) c)))
 
-abbrev pub markedWith : Rules → Reach → Bool → List ℕ → List ℕ
+abbrev pub markedWith : Rules → Reach → Bool → Marks → Marks
 markedWith q Reach.Nowhere b k = k
 markedWith q (Reach.Reads w a) b k = k
 markedWith q (Reach.Writes w a) b k = q .stored w k a b
 markedWith q (Reach.Raises n) b k = k
 
-abbrev pub actStepWith : Rules → Act → Data → Val → Flags → Control → List ℕ → List ℕ → Stepped
+abbrev pub actStepWith : Rules → Act → Data → Val → Flags → Control → List ℕ → Marks → Stepped
 actStepWith q (Act.Halted h) a x f c m k = haltStep h a f c m k
 actStepWith q (Act.Does e t r) a x f c m k = completed (doneOf c e t r) (storedTo r (x .value) m) (markedWith q r (x .mark) k) (lineOf c e r)
 
-unfoldable pub instrStepWith : Rules → Instr → State → List ℕ → List ℕ → Stepped
+unfoldable pub instrStepWith : Rules → Instr → State → List ℕ → Marks → Stepped
 instrStepWith q i s m k =
     actStepWith q
     (actWith q i (valueAt s (sourcesOf i .first)) (valueAt s (sourcesOf i .second)) (s .flags) (s .control) m k)
@@ -77,24 +77,24 @@ instrStepWith q i s m k =
     m
     k
 
-abbrev pub fetchStepWith : Rules → Fetched → State → List ℕ → List ℕ → Stepped
+abbrev pub fetchStepWith : Rules → Fetched → State → List ℕ → Marks → Stepped
 fetchStepWith q (Fetched.Halted h) s m k = haltStep h Data.Nowhere (s .flags) (s .control) m k
 fetchStepWith q (Fetched.Run i) s m k = instrStepWith q i s m k
 
-abbrev pub eventStepWith : Rules → Event → State → List ℕ → List ℕ → Stepped
+abbrev pub eventStepWith : Rules → Event → State → List ℕ → Marks → Stepped
 eventStepWith q (Event.Enter e) s m k = entryStep e (s .flags) (s .control) m k
 eventStepWith q Event.Instruction s m k = fetchStepWith q (fetchOf (pcOf (s .control)) m k) s m k
 
-unfoldable pub stepWith : Rules → ℕ → State → List ℕ → List ℕ → Stepped
+unfoldable pub stepWith : Rules → ℕ → State → List ℕ → Marks → Stepped
 stepWith q t s m k = eventStepWith q (chosen t (s .control)) s m k
 
 -- ---- the run
 
-unfoldable pub stepsWith : Rules → ℕ → ℕ → List ℕ → State → List ℕ → List ℕ → Final
+unfoldable pub stepsWith : Rules → ℕ → ℕ → List ℕ → State → List ℕ → Marks → Final
 stepsWith q zero n t s m k = final Reply.Budget n s m k
 stepsWith q (suc b) n t s m k = goOn (stepsWith q b (n + 1) t) n s m k (stepWith q (getD t n 0) s m k)
 
-abbrev pub judgedWith : Rules → Judged → ℕ → List ℕ → State → List ℕ → List ℕ → Final
+abbrev pub judgedWith : Rules → Judged → ℕ → List ℕ → State → List ℕ → Marks → Final
 judgedWith q (Judged.Refused r) b t s m k = final r 0 s m k
 judgedWith q Judged.Good b t s m k = stepsWith q b 0 t s m k
 

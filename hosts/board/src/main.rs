@@ -1,6 +1,6 @@
 //! A small firmware on the board's memory: a marked key, and an interrupt that comes from the tape.
 
-use manik::{run, Error, State};
+use manik::{marks, run, Error, State};
 
 /// The board's memory.
 const MEMORY: usize = 65_536;
@@ -43,9 +43,9 @@ fn main() -> Result<(), Error> {
     put(&mut memory, 0, START);
     put(&mut memory, IBASE + 12, HANDLER);
     put(&mut memory, KEY_AT, KEY);
-    // One mark for each byte of memory: the key's are 1.
-    let mut marks = vec![0; MEMORY];
-    marks[KEY_AT..KEY_AT + KEY.len()].fill(1);
+    // One bit for each byte of memory: the key's are 1.
+    let mut marks = vec![0; marks::room(MEMORY)];
+    marks::mark(&mut marks, KEY_AT..KEY_AT + KEY.len());
     let mut state = State { psw: IE | LINE_2, ibase: IBASE as u32, ..State::fresh() };
 
     // One tape byte for each step, bit i for line i. Twenty steps with all lines low.

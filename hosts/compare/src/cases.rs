@@ -7,6 +7,7 @@ mod edges;
 mod state;
 
 use second::corpus::Case;
+use second::marks;
 use second::record;
 use second::state::State;
 
@@ -18,6 +19,7 @@ use code::Code;
 struct Draft {
     state: State,
     memory: Vec<u8>,
+    /// A bit for each byte of memory.
     marks: Vec<u8>,
     tape: Vec<u8>,
     budget: u64,
@@ -78,15 +80,14 @@ impl Cases {
     /// A loop with subroutines and handlers, which goes on for as long as the budget lasts unless
     /// a marked branch or a corner stops it.
     fn firmware(&self, random: &mut Random) -> Draft {
-        let length = random.pick(&[384, 512, 512, 640, 768, 1_024]);
+        let length = random.pick(&[384, 508, 512, 640, 764, 1_024]);
         let memory = self.code.firmware(random, length);
-        let mut marks = vec![0; length];
-        if random.once_in(2) {
+        let marks = if random.once_in(2) {
             let often = random.pick(&[2, 10, 40]);
-            for mark in &mut marks[code::DATA..] {
-                *mark = random.once_in(often).into();
-            }
-        }
+            marks_from(random, code::DATA, length, often)
+        } else {
+            vec![0; marks::room(length)]
+        };
         let state = state::firmware(random, length as u32);
         let budget = match random.below(20) {
             0 => 1_000 + random.below(4_000) as usize,
@@ -122,14 +123,15 @@ impl Draft {
     }
 }
 
-/// Lengths that are not refused, mostly short ones, seldom the longest.
+/// Lengths that are not refused, mostly short ones, seldom the longest; many end in the middle of a
+/// mark byte.
 fn memory_length(random: &mut Random) -> usize {
     match random.below(400) {
         0 => random.pick(&[65_528, 65_532, 65_536, 65_536]),
         1..4 => random.pick(&[1_024, 2_048, 4_096]),
         4..20 => random.pick(&[4, 8, 12]),
-        20..60 => random.pick(&[256, 260, 384, 512]),
-        _ => random.pick(&[16, 20, 24, 32, 40, 48, 64, 96, 128]),
+        20..60 => random.pick(&[256, 260, 384, 508]),
+        _ => random.pick(&[16, 20, 24, 28, 32, 44, 48, 60, 64, 96, 128]),
     }
 }
 
@@ -158,14 +160,17 @@ fn tape(random: &mut Random, length: usize) -> Vec<u8> {
 /// No marks, some in the upper half of memory, few anywhere, or many.
 fn marks(random: &mut Random, length: usize) -> Vec<u8> {
     let (first, often) = match random.below(12) {
-        0..6 => return vec![0; length],
+        0..6 => return vec![0; marks::room(length)],
         6..9 => (length / 2, 3),
         9..11 => (0, 60),
         _ => (0, 2),
     };
-    let mut marks = vec![0; length];
-    for mark in &mut marks[first..] {
-        *mark = random.once_in(often).into();
-    }
-    marks
+    marks_from(random, first, length, often)
+}
+
+/// Marks from an address on, so often.
+fn marks_from(random: &mut Random, first: usize, length: usize, often: u32) -> Vec<u8> {
+    let mut marks = vec![false; length];
+    marks[first..].fill_with(|| random.once_in(often));
+    marks::packed(&marks)
 }

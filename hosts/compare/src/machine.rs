@@ -1,6 +1,7 @@
 //! The inputs of a run, and what a run leaves.
 
 use manik::Error;
+use second::marks::is_marked;
 use second::record;
 use second::run::{run_observed, Outcome};
 use second::state::{psw, State};
@@ -13,6 +14,7 @@ use crate::random::Random;
 pub struct Input {
     pub record: Vec<u8>,
     pub memory: Vec<u8>,
+    /// A bit for each byte of memory, or of another length.
     pub marks: Vec<u8>,
     pub tape: Vec<u8>,
     pub budget: u64,
@@ -70,9 +72,7 @@ pub fn scrambled(input: &Input, random: &mut Random) -> Input {
         change_marked(&mut state, || random.word());
         other.record = record::write(&state).to_vec();
     }
-    for (byte, _) in marked_bytes(&mut other.memory, &input.marks) {
-        *byte = random.word() as u8;
-    }
+    marked_bytes(&mut other.memory, &input.marks).for_each(|byte| *byte = random.word() as u8);
     other
 }
 
@@ -82,7 +82,7 @@ pub fn blotted(mut end: End) -> End {
         change_marked(&mut state, || 0);
         end.record = record::write(&state).to_vec();
     }
-    marked_bytes(&mut end.memory, &end.marks).for_each(|(byte, _)| *byte = 0);
+    marked_bytes(&mut end.memory, &end.marks).for_each(|byte| *byte = 0);
     end
 }
 
@@ -98,9 +98,7 @@ fn change_marked(state: &mut State, mut other: impl FnMut() -> u32) {
     }
 }
 
-fn marked_bytes<'m>(
-    memory: &'m mut [u8],
-    marks: &'m [u8],
-) -> impl Iterator<Item = (&'m mut u8, &'m u8)> {
-    memory.iter_mut().zip(marks).filter(|(_, &mark)| mark == 1)
+fn marked_bytes<'m>(memory: &'m mut [u8], marks: &'m [u8]) -> impl Iterator<Item = &'m mut u8> {
+    let bytes = memory.iter_mut().enumerate();
+    bytes.filter(|&(address, _)| is_marked(marks, address)).map(|(_, byte)| byte)
 }

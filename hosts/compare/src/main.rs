@@ -5,6 +5,7 @@ mod cases;
 mod check;
 mod listing;
 mod machine;
+mod many;
 mod random;
 mod report;
 #[cfg(test)]
@@ -13,11 +14,11 @@ mod tests;
 use std::env;
 use std::io::{self, ErrorKind, Write};
 use std::process::ExitCode;
-use std::time::{Duration, Instant};
 
 use cases::Cases;
 use check::{check, Disagreement};
 use machine::{by_library, scrambled};
+use many::{compare_all, cores, Compare};
 use random::Random;
 use report::Reached;
 
@@ -25,9 +26,6 @@ const USAGE: &str = include_str!("usage.txt");
 
 /// With as many cases as this, something that was not reached is a failure.
 const MANY: u64 = 20_000;
-
-/// How often progress is shown.
-const PAUSE: Duration = Duration::from_secs(5);
 
 /// What a call writes, and whether all was as it should be.
 struct Verdict {
@@ -45,8 +43,8 @@ fn main() -> ExitCode {
         .collect();
     match (&arguments[..], numbers.as_deref()) {
         (["--case", _, _], Some(&[seed, index])) => tell(one(seed, index)),
-        (["--texts", _, _], Some(&[n, seed])) => tell(texts(n, seed)),
-        ([_, _], Some(&[n, seed])) => tell(many(n, seed)),
+        (["--texts", _, _], Some(&[n, seed])) => tell(texts(n, seed, cores())),
+        ([_, _], Some(&[n, seed])) => tell(many(n, seed, cores())),
         _ => {
             eprint!("{USAGE}");
             ExitCode::from(2)
@@ -67,47 +65,41 @@ fn tell(Verdict { text, good }: Verdict) -> ExitCode {
     }
 }
 
-/// Compares many cases.
-fn many(n: u64, seed: u64) -> Verdict {
+/// Compares many cases on so many threads.
+fn many(n: u64, seed: u64, threads: usize) -> Verdict {
     let cases = Cases::new();
     let compare = |index, reached: &mut Reached| compare(&cases, seed, index, reached);
-    let reached = all(n, seed, Reached::default(), compare);
-    let all = "Every refusal, stop, entry, instruction and kind of listing and text was reached.";
-    reached.map_or_else(|verdict| verdict, |reached| summary(n, seed, &reached, all))
+    let all = "Every refusal, stop, entry, instruction, class of marks and kind of listing and \
+               text was reached.";
+    verdict(n, seed, threads, Reached::default, compare, all)
 }
 
 /// Compares the texts of many cases, and nothing else of them.
-fn texts(n: u64, seed: u64) -> Verdict {
+fn texts(n: u64, seed: u64, threads: usize) -> Verdict {
     let compare = |index, reached: &mut Reached| compare_texts(seed, index, reached);
-    let reached = all(n, seed, Reached::by_texts(), compare);
     let all = "Every refusal and kind of text was reached.";
-    reached.map_or_else(|verdict| verdict, |reached| summary(n, seed, &reached, all))
+    verdict(n, seed, threads, Reached::by_texts, compare, all)
 }
 
-/// Makes a comparison for each of many cases; stops at the first disagreement.
-fn all(
+/// The verdict on many cases: what they reached, or the lowest that disagrees.
+fn verdict(
     n: u64,
     seed: u64,
-    mut reached: Reached,
-    compare: impl Fn(u64, &mut Reached) -> Result<(), Disagreement>,
-) -> Result<Reached, Verdict> {
-    let (began, mut shown) = (Instant::now(), Instant::now());
-    for index in 0..n {
-        if let Err(Disagreement { about, text }) = compare(index, &mut reached) {
+    threads: usize,
+    none: fn() -> Reached,
+    compare: impl Compare,
+    all: &str,
+) -> Verdict {
+    match compare_all(n, threads, none, compare) {
+        Ok(reached) => summary(n, seed, &reached, all),
+        Err((index, Disagreement { about, text })) => {
             let text = format!(
                 "case {index} of seed {seed}: {about}\n{text}\n\
                  alone: tools/compare --case {seed} {index}\n"
             );
-            return Err(Verdict { text, good: false });
-        }
-        if shown.elapsed() > PAUSE {
-            shown = Instant::now();
-            // Nobody may be looking.
-            let seconds = began.elapsed().as_secs();
-            let _ = writeln!(io::stderr(), "{} of {n} cases, {seconds} seconds", index + 1);
+            Verdict { text, good: false }
         }
     }
-    Ok(reached)
 }
 
 /// Compares a case: its run, the calls of its listing, and those of its text.

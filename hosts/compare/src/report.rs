@@ -10,6 +10,7 @@ pub use listing::listing;
 use manik::Reply;
 use second::corpus::{AssemblyCase, Coverage, ListCase, ListCoverage};
 use second::listing::line_at;
+use second::marks::is_marked;
 use second::record;
 use second::run::Outcome;
 use second::step::{step, Entry, Step};
@@ -71,6 +72,18 @@ impl Reached {
         self.texts.add(case, assembled);
     }
 
+    /// Adds what other cases reached.
+    pub fn join(&mut self, other: &Reached) {
+        add_counts(&mut self.coverage.lines, &other.coverage.lines);
+        add_counts(&mut self.listings.lines, &other.listings.lines);
+        self.texts.join(&other.texts);
+        self.out_of_shape += other.out_of_shape;
+        self.told_apart += other.told_apart;
+        self.steps += other.steps;
+        self.one_pass += other.one_pass;
+        self.two_passes += other.two_passes;
+    }
+
     /// Every line with its count.
     fn lines(&self) -> Vec<(&str, &str, u64)> {
         if self.texts_alone {
@@ -107,6 +120,11 @@ impl Reached {
     }
 }
 
+/// Adds to the counts of lines those of the same lines elsewhere.
+fn add_counts<N>(lines: &mut [(&str, N, u64)], others: &[(&str, N, u64)]) {
+    lines.iter_mut().zip(others).for_each(|(line, other)| line.2 += other.2);
+}
+
 /// The most steps, or lines of a listing, and bytes that are written out.
 const MOST_LINES: usize = 200;
 const MOST_BYTES: usize = 1_024;
@@ -115,10 +133,10 @@ const MOST_BYTES: usize = 1_024;
 /// same of the scrambled run, whose marks, tape and budget are the first's.
 pub fn case(input: &Input, scrambled: &Input) -> String {
     let mut text = format!(
-        "First run\nbudget {}\nmarks {} bytes, at {:x?}\ntape {} bytes {}\n",
+        "First run\nbudget {}\nmarks {} bytes, set at {}\ntape {} bytes {}\n",
         input.budget,
         input.marks.len(),
-        nonzero(&input.marks),
+        marked(&input.marks),
         input.tape.len(),
         hex(&input.tape),
     );
@@ -225,8 +243,8 @@ fn state(record: &[u8]) -> String {
 
 fn end(name: &str, end: &End) -> String {
     let End { reply, steps, record, memory, marks } = end;
-    let (state, memory, marks) = (state(record), hex(memory), nonzero(marks));
-    let parts = format!("  {state}\n  memory {memory}\n  marks at {marks:x?}\n");
+    let (state, memory, marks) = (state(record), hex(memory), marked(marks));
+    let parts = format!("  {state}\n  memory {memory}\n  marks set at {marks}\n");
     format!("{name}: reply {reply}, steps {steps}\n{parts}")
 }
 
@@ -239,8 +257,19 @@ fn hex(bytes: &[u8]) -> String {
     }
 }
 
-/// The places of the bytes that aren't zero, and these bytes.
-fn nonzero(bytes: &[u8]) -> Vec<(usize, u8)> {
-    let places = bytes.iter().copied().enumerate().filter(|&(_, byte)| byte != 0);
-    places.take(MOST_BYTES).collect()
+/// The addresses whose bits are set, those past the memory's end too: `10-13 2a`, or `none`.
+fn marked(marks: &[u8]) -> String {
+    let is_set = |&address: &usize| is_marked(marks, address);
+    let (mut ranges, mut next) = (Vec::new(), 0);
+    while let Some(first) = (next..8 * marks.len()).find(is_set) {
+        let last = (first..).take_while(is_set).last().unwrap_or(first);
+        let more = if last > first { format!("-{last:x}") } else { String::new() };
+        ranges.push(format!("{first:x}{more}"));
+        next = last + 1;
+    }
+    match &ranges[..] {
+        [] => "none".to_string(),
+        ranges if ranges.len() > MOST_BYTES => ranges[..MOST_BYTES].join(" ") + " ...",
+        ranges => ranges.join(" "),
+    }
 }

@@ -2,6 +2,8 @@
 
 mod assembly;
 mod listing;
+mod many;
+mod marks;
 
 use second::corpus::{assemble, Line};
 use second::record;
@@ -153,7 +155,7 @@ fn a_leak_shows_in_two_runs() {
 fn input(code: &[Line], state: &State, budget: usize) -> Input {
     let mut memory = assemble(code);
     memory.resize(32, 0);
-    let (marks, tape) = (vec![0; 32], vec![0; budget]);
+    let (marks, tape) = (vec![0; 4], vec![0; budget]);
     Input { record: record::write(state).to_vec(), memory, marks, tape, budget: budget as u64 }
 }
 

@@ -7,7 +7,8 @@
 //! let mut state = manik::State::fresh();
 //! // movi r1,16; add r1,r1; a jump to itself.
 //! let mut memory = [0x71, 0x10, 0x21, 0x11, 0xf4, 0x00, 0, 0];
-//! let mut marks = [0; 8];
+//! // A bit for each byte of memory: none is marked.
+//! let mut marks = [0; manik::marks::room(8)];
 //! let outcome = manik::run(&mut state, &mut memory, &mut marks, &[0; 3], 3)?;
 //! assert_eq!((outcome.reply, outcome.steps), (manik::Reply::BudgetUsed, 3));
 //! assert_eq!((state.pc, state.registers[1].value), (4, 32));
@@ -22,6 +23,7 @@ compile_error!("the static library is x86-64 code for Linux: build with `tools/h
 mod assemble;
 mod call;
 mod list;
+pub mod marks;
 mod reply;
 mod shown;
 mod state;
@@ -33,6 +35,8 @@ pub use reply::{Error, Outcome, Reply};
 pub use state::{Register, State, RECORD_LENGTH};
 
 /// Runs over the lent memory and marks, at most `budget` steps, one tape byte for each.
+///
+/// The marks are bits, as [`marks`] has them: `marks::room(memory.len())` bytes.
 ///
 /// State, memory and marks are changed as document 01 says: not at all by a refusal, else by the
 /// completed steps. An error says that the library isn't the one this package was written for;

@@ -8,10 +8,10 @@ use std::fmt;
 pub enum Reply {
     /// Memory length is 0, above 65,536, or no multiple of 4.
     MemoryLength = 1,
-    /// Mark slice of another length.
+    /// Mark slice of another length than the memory length divided by 8, rounded up.
     MarkLength = 2,
-    /// A mark byte above 1.
-    MarkByte = 3,
+    /// A set bit past the memory's end.
+    MarkPastEnd = 3,
     /// State out of form.
     StateForm = 4,
     /// Tape shorter than the budget.
@@ -39,7 +39,7 @@ impl Reply {
         Some(match number {
             1 => Reply::MemoryLength,
             2 => Reply::MarkLength,
-            3 => Reply::MarkByte,
+            3 => Reply::MarkPastEnd,
             4 => Reply::StateForm,
             5 => Reply::TapeLength,
             6 => Reply::TapeByte,
@@ -57,13 +57,15 @@ impl Reply {
     }
 }
 
-/// Document 01's fact, in its words.
+/// Document 01's fact, in its words or those of document 02.
 impl fmt::Display for Reply {
     fn fmt(&self, formatter: &mut fmt::Formatter) -> fmt::Result {
         formatter.write_str(match self {
             Reply::MemoryLength => "memory length is 0, above 65,536, or no multiple of 4",
-            Reply::MarkLength => "mark slice of another length",
-            Reply::MarkByte => "a mark byte above 1",
+            Reply::MarkLength => {
+                "mark slice of another length than the memory length divided by 8, rounded up"
+            }
+            Reply::MarkPastEnd => "a set bit past the memory's end",
             Reply::StateForm => {
                 "state out of form: odd program counter; PSW bit 12 set; HWDBG bits 0, 1 not both \
                  set or a bit of 9 to 31 set; timer pending with TIMER not 0"

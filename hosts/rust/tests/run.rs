@@ -1,6 +1,6 @@
 //! Runs through the static library: document 01's example, every reply, and records out of shape.
 
-use manik::{run, run_record, Error, Outcome, Register, Reply, State, RECORD_LENGTH};
+use manik::{marks, run, run_record, Error, Outcome, Register, Reply, State, RECORD_LENGTH};
 
 /// The bytes of document 01's example: movi r1,16; add r1,r1; a jump to itself.
 const EXAMPLE: [u8; 6] = [0x71, 0x10, 0x21, 0x11, 0xf4, 0x00];
@@ -20,7 +20,8 @@ impl Rig {
     fn with(bytes: &[u8]) -> Rig {
         let mut memory = vec![0; 16];
         memory[..bytes.len()].copy_from_slice(bytes);
-        Rig { state: State::fresh(), memory, marks: vec![0; 16], tape: vec![0; 3], budget: 3 }
+        let marks = vec![0; marks::room(16)];
+        Rig { state: State::fresh(), memory, marks, tape: vec![0; 3], budget: 3 }
     }
 
     fn run(&mut self) -> (Reply, u64) {
@@ -68,16 +69,33 @@ fn refusal_1_memory_length() {
 
 #[test]
 fn refusal_2_mark_length() {
-    for length in [0, 4, 15, 17, 65_536] {
+    for length in [0, 1, 3, 8_192] {
         refuses(|rig| rig.marks = vec![0; length], Reply::MarkLength);
     }
+    // A byte for each mark, as before document 02's ticket 7; and rounded down.
+    refuses(|rig| rig.marks = vec![0; 16], Reply::MarkLength);
+    refuses(|rig| (rig.memory, rig.marks) = (vec![0; 20], vec![0; 2]), Reply::MarkLength);
 }
 
 #[test]
-fn refusal_3_mark_byte() {
-    for (place, byte) in [(0, 2), (7, 255), (15, 128)] {
-        refuses(|rig| rig.marks[place] = byte, Reply::MarkByte);
+fn refusal_3_mark_past_end() {
+    for (length, byte) in [(4, 0x10), (12, 0x80), (12, 0x1c), (20, 0xff), (65_532, 0x10)] {
+        let damage = |rig: &mut Rig| {
+            rig.memory.resize(length, 0);
+            rig.marks = vec![0; marks::room(length)];
+            rig.marks[length / 8] = byte;
+        };
+        refuses(damage, Reply::MarkPastEnd);
     }
+    // The last four bytes of 12 are marked, and the last eight of 16.
+    let last = |length, marks: [u8; 2]| {
+        move |rig: &mut Rig| {
+            rig.memory.truncate(length);
+            rig.marks = marks.to_vec();
+        }
+    };
+    stops(&EXAMPLE, last(12, [0, 0x0f]), Reply::BudgetUsed, 3);
+    stops(&EXAMPLE, last(16, [0, 0xff]), Reply::BudgetUsed, 3);
 }
 
 #[test]
@@ -111,10 +129,11 @@ fn refusal_6_tape_byte() {
 fn the_first_refusal_is_given() {
     let damage = |rig: &mut Rig| {
         rig.state.pc = 1;
-        rig.marks[3] = 2;
+        rig.memory.truncate(12);
+        rig.marks[1] = 0x10;
         rig.budget = 9;
     };
-    refuses(damage, Reply::MarkByte);
+    refuses(damage, Reply::MarkPastEnd);
     refuses(|rig| (rig.memory, rig.marks) = (Vec::new(), Vec::new()), Reply::MemoryLength);
 }
 
@@ -125,7 +144,8 @@ fn no_step_is_made_with_budget_0() {
 
 #[test]
 fn stops_12_to_14() {
-    stops(&EXAMPLE, |rig| rig.marks[3] = 1, Reply::FetchMarked, 1);
+    stops(&EXAMPLE, |rig| marks::mark(&mut rig.marks, 3..4), Reply::FetchMarked, 1);
+    stops(&EXAMPLE, |rig| marks::mark(&mut rig.marks, 6..16), Reply::BudgetUsed, 3);
     stops(&[0x71, 0x10, 0xfc, 0x00], |_| (), Reply::NoInstruction, 1);
     // jr r1 with r1 marked.
     stops(&[0x1c, 0x01], |rig| rig.state.registers[1].marked = true, Reply::OperandMarked, 0);
@@ -176,7 +196,26 @@ fn a_store_changes_memory_and_marks() {
     (rig.tape, rig.budget) = (vec![0], 1);
     assert_eq!(rig.run(), (Reply::BudgetUsed, 1));
     assert_eq!(rig.memory[12..], [1, 2, 3, 4]);
-    assert_eq!(rig.marks[8..], [0, 0, 0, 0, 1, 1, 1, 1]);
+    assert_eq!(rig.marks, [0, 0xf0]);
+}
+
+/// A store at each place of a mark byte leaves the marks beside its own.
+#[test]
+fn a_store_leaves_the_marks_of_its_neighbours() {
+    for place in 0..8 {
+        for (marked, before) in [(true, 0), (false, 0xff), (true, 0x55), (false, 0xaa)] {
+            // strb r1 to r2 + 0.
+            let mut rig = Rig::with(&[0xd0, 0x12]);
+            rig.state.registers[1].marked = marked;
+            rig.state.registers[2].value = 8 + place;
+            rig.marks[1] = before;
+            (rig.tape, rig.budget) = (vec![0], 1);
+            assert_eq!(rig.run(), (Reply::BudgetUsed, 1));
+            let own = 1 << place;
+            let after = if marked { before | own } else { before & !own };
+            assert_eq!(rig.marks, [0, after], "byte {place} over {before:#x}");
+        }
+    }
 }
 
 /// A state in which every place holds something else.
@@ -205,7 +244,7 @@ fn a_record_read_back_is_the_state() {
 /// The library reads and writes every place: a run of no steps gives the record back.
 #[test]
 fn the_library_gives_a_record_back() {
-    let (mut record, mut memory, mut marks) = (busy_state().to_record(), [0; 4], [0; 4]);
+    let (mut record, mut memory, mut marks) = (busy_state().to_record(), [0; 4], [0; 1]);
     let outcome = run_record(&mut record, &mut memory, &mut marks, &[], 0);
     assert_eq!(outcome, Ok(Outcome { reply: Reply::BudgetUsed, steps: 0, cycles: 0x5a5a_000b }));
     assert_eq!(record, busy_state().to_record());
@@ -223,10 +262,10 @@ fn records_out_of_shape_change_nothing() {
         record
     }));
     for record in damaged {
-        let (mut after, mut memory, mut marks) = (record.clone(), EXAMPLE, [0; 6]);
+        let (mut after, mut memory, mut marks) = (record.clone(), EXAMPLE, [0; 1]);
         let outcome = run_record(&mut after, &mut memory, &mut marks, &[0; 3], 3);
         assert_eq!(outcome, Err(Error::RecordOutOfShape));
-        assert_eq!((&after, memory, marks), (&record, EXAMPLE, [0; 6]));
+        assert_eq!((&after, memory, marks), (&record, EXAMPLE, [0; 1]));
         assert_eq!(State::from_record(&record), None);
     }
 }

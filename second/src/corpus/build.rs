@@ -1,7 +1,10 @@
 //! How the edges are written down: a busy machine with some code, and what is special about it.
 
+use std::ops::Range;
+
 use super::{Case, Promise};
 use crate::isa::{encode, mnemonics, Halves};
+use crate::marks;
 use crate::state::{Register, State};
 use crate::step::Access;
 
@@ -59,7 +62,7 @@ pub fn busy_bytes(length: u32) -> Vec<u8> {
 /// A busy machine that makes one step with all lines low; code from address 0 on.
 pub fn edge(name: impl Into<String>, code: &[Line]) -> Case {
     let memory = busy_bytes(LENGTH);
-    let marks = vec![0; memory.len()];
+    let marks = vec![0; marks::room(memory.len())];
     let (name, state) = (name.into(), busy_state());
     let case = Case { name, state, memory, marks, tape: Vec::new(), budget: 0, promise: None };
     case.steps(1).at(0, code)
@@ -78,10 +81,10 @@ impl Case {
         self
     }
 
-    /// Other bytes of this length as memory, and as many marks.
+    /// Other bytes of this length as memory, and the room for their marks.
     pub fn length(mut self, length: u32) -> Case {
         self.memory = busy_bytes(length);
-        self.marks = vec![0; length as usize];
+        self.marks = vec![0; marks::room(length as usize)];
         self
     }
 
@@ -108,8 +111,19 @@ impl Case {
     }
 
     /// Marks a byte of memory.
-    pub fn mark(mut self, address: u32) -> Case {
-        self.marks[address as usize] = 1;
+    pub fn mark(self, address: u32) -> Case {
+        self.mark_all(address..address + 1)
+    }
+
+    /// Marks bytes of memory.
+    pub fn mark_all(mut self, addresses: Range<u32>) -> Case {
+        marks::mark(&mut self.marks, addresses.start as usize..addresses.end as usize);
+        self
+    }
+
+    /// The mark slice as these bytes, whatever they mean.
+    pub fn mark_slice(mut self, bytes: &[u8]) -> Case {
+        self.marks = bytes.to_vec();
         self
     }
 
@@ -140,22 +154,31 @@ impl Case {
 
     /// The documents promise this reply after so many steps, the last of which is no bus error.
     pub fn gives(mut self, reply: u32, steps: u64) -> Case {
-        self.promise = Some(Promise { reply, steps, bus_error: None, cycles: None });
+        self.promise =
+            Some(Promise { reply, steps, bus_error: None, cycles: None, mark_byte: None });
         self
     }
 
     /// The last of the promised steps is a bus error.
     pub fn bus_error(mut self, access: Access) -> Case {
-        let promise = self.promise.as_mut().expect("steps are promised");
-        promise.bus_error = Some(access);
+        self.promised().bus_error = Some(access);
         self
     }
 
     /// The promised steps cost so many cycles.
     pub fn costs(mut self, cycles: u32) -> Case {
-        let promise = self.promise.as_mut().expect("steps are promised");
-        promise.cycles = Some(cycles);
+        self.promised().cycles = Some(cycles);
         self
+    }
+
+    /// The promised steps leave this byte in the mark slice.
+    pub fn leaves(mut self, place: usize, mark_byte: u8) -> Case {
+        self.promised().mark_byte = Some((place, mark_byte));
+        self
+    }
+
+    fn promised(&mut self) -> &mut Promise {
+        self.promise.as_mut().expect("steps are promised")
     }
 
     /// The name alone doesn't say which reply comes.

@@ -1,15 +1,19 @@
 //! What runs reach.
 
+mod marks;
+
 use super::{Case, REPLIES};
 use crate::isa::{decode, mnemonics};
 use crate::run::Outcome;
 use crate::state::{hwdbg, State};
 use crate::step::{step, Access, Entry};
 
+use marks::Before;
+
 /// Counts with their names, in a fixed order.
 pub struct Coverage {
     /// For each line its kind, its name and how often it was reached: the mnemonics first, then
-    /// the replies, then the entries.
+    /// the replies, then the entries, then what marks come to.
     pub lines: Vec<(&'static str, String, u64)>,
     /// For each first byte of an instruction the line of its mnemonic.
     line_of_byte: [Option<usize>; 256],
@@ -19,7 +23,8 @@ pub struct Coverage {
 const ENTRIES: [&str; 7] =
     ["swint", "breakpoint", "watchpoint", "timer", "external", "fetch bus error", "data bus error"];
 
-/// How often these cases reach each mnemonic, each reply and each kind of entry.
+/// How often these cases reach each mnemonic, each reply, each kind of entry and each class of
+/// marks.
 pub fn coverage(cases: &[Case]) -> Coverage {
     let mut coverage = Coverage::new();
     for case in cases {
@@ -39,7 +44,8 @@ impl Coverage {
         let replies = REPLIES.iter().map(|reply| reply.number().to_string()).collect();
         let entries = ENTRIES.map(str::to_string).to_vec();
         let lines = named("step", steps).chain(named("reply", replies));
-        let lines = lines.chain(named("entry", entries)).collect();
+        let marks = marks::CLASSES.map(str::to_string).to_vec();
+        let lines = lines.chain(named("entry", entries)).chain(named("marks", marks)).collect();
         let line_of_byte = std::array::from_fn(|byte| {
             let mnemonic = decode((byte as u16) << 8, 0)?.with_operands([0; 3]);
             mnemonics.iter().position(|&each| each == mnemonic)
@@ -57,26 +63,43 @@ impl Coverage {
         marks: &mut [u8],
         tape: &[u8],
     ) {
-        let (first_entry, first_reply) = (self.lines.len() - ENTRIES.len(), self.first_reply());
         let reply = REPLIES.iter().position(|&reply| reply == outcome.reply);
-        self.count(first_reply + reply.expect("every reply is listed"));
+        self.count(self.first_reply() + reply.expect("every reply is listed"));
+        self.count_marks(marks::class_of_run(outcome.reply, memory.len(), marks));
         for &lines in &tape[..outcome.steps as usize] {
             let first_byte = memory.get(state.pc as usize).copied();
+            let before = Before::new(&state, memory, marks);
             let step = step(&mut state, memory, marks, lines).expect("it was completed");
             let entry = step.entry.map(entry_name);
             if let Some(entry) = entry.and_then(|name| ENTRIES.iter().position(|&e| e == name)) {
-                self.count(first_entry + entry);
+                self.count(self.first_entry() + entry);
             }
             // The other entries take the place of an instruction, or of what it would have done.
             if matches!(entry, None | Some("swint" | "watchpoint")) {
                 let line = first_byte.and_then(|byte| self.line_of_byte[usize::from(byte)]);
                 self.count(line.expect("an instruction was done"));
+                self.count_marks(before.classes(marks));
             }
         }
     }
 
     fn first_reply(&self) -> usize {
-        self.lines.len() - ENTRIES.len() - REPLIES.len()
+        self.first_entry() - REPLIES.len()
+    }
+
+    fn first_entry(&self) -> usize {
+        self.first_of_marks() - ENTRIES.len()
+    }
+
+    fn first_of_marks(&self) -> usize {
+        self.lines.len() - marks::CLASSES.len()
+    }
+
+    fn count_marks(&mut self, classes: impl IntoIterator<Item = &'static str>) {
+        for name in classes {
+            let class = marks::CLASSES.iter().position(|&class| class == name);
+            self.count(self.first_of_marks() + class.expect("every class is listed"));
+        }
     }
 
     fn count(&mut self, line: usize) {

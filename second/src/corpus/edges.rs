@@ -6,6 +6,7 @@ mod bus_errors;
 mod cycles;
 mod entries;
 mod jumps;
+mod mark_bits;
 mod marks;
 mod replies;
 mod special;
@@ -27,6 +28,7 @@ pub fn edges() -> Vec<Case> {
         replies::cases(),
         bus_errors::cases(),
         cycles::cases(),
+        mark_bits::cases(),
     ]
     .concat()
 }

@@ -3,6 +3,7 @@
 
 use super::Case;
 use crate::isa::{encode, mnemonics, Halves, Instr};
+use crate::marks;
 use crate::state::{hwdbg, psw, Register, State};
 use crate::word::sign_extend;
 
@@ -69,13 +70,14 @@ impl Generator {
         case
     }
 
-    /// Mostly short ones. Up to 16 there is no room for a handler of bus errors.
+    /// Mostly short ones. Up to 16 there is no room for a handler of bus errors. Some end in the
+    /// middle of a mark byte.
     fn length(&mut self) -> u32 {
         match self.below(40) {
             0 => self.pick(&[256, 260, 384, 512]),
             1 => 4,
-            2 => 8,
-            _ => self.pick(&[16, 20, 20, 24, 32, 32, 40, 48, 48, 64, 64, 96]),
+            2 => self.pick(&[8, 12]),
+            _ => self.pick(&[16, 20, 20, 24, 28, 32, 36, 44, 48, 60, 64, 96]),
         }
     }
 
@@ -167,7 +169,9 @@ impl Generator {
             9..11 => (0, 60),
             _ => (0, 2),
         };
-        (0..length).map(|place| u8::from(place >= first && self.once_in(often))).collect()
+        let marks: Vec<bool> =
+            (0..length).map(|place| place >= first && self.once_in(often)).collect();
+        marks::packed(&marks)
     }
 
     /// A tape of 0 to 200 bytes.
@@ -282,18 +286,16 @@ impl Generator {
 
     /// Damages some part of a case, mostly so that it must be refused.
     fn damage(&mut self, case: &mut Case) {
-        let length = case.memory.len().min(case.marks.len());
-        let place = if length == 0 { 0 } else { self.below(length as u32) as usize };
+        let length = case.memory.len();
         match self.below(12) {
-            0 => case.memory.truncate(place),
+            0 => case.memory.truncate(self.below(length.max(1) as u32) as usize),
             1 => {
                 let shorter = self.pick(&[0, 1, 2, 3]);
                 case.memory.truncate(shorter * length / 4 + shorter);
-                case.marks.truncate(case.memory.len());
+                case.marks.truncate(marks::room(case.memory.len()));
             }
-            2 => case.marks.resize(place + 1, 0),
-            3 => case.marks.extend([0; 4]),
-            4 if length > 0 => case.marks[place] = self.pick(&[2, 3, 128, 254, 255]),
+            2 => self.resize_marks(case),
+            3 | 4 => self.mark_past_end(case),
             5 => case.state.pc |= 1,
             6 => case.state.psw |= psw::TR,
             7 => case.state.hwdbg ^= 1 << self.below(32),
@@ -307,5 +309,23 @@ impl Generator {
                 case.tape.get_mut(at).into_iter().for_each(|lines| *lines = strange);
             }
         }
+    }
+
+    /// Marks of another length: none, a byte too few or too many, rounded down, a byte for each byte
+    /// of memory as before ticket 7, or any.
+    fn resize_marks(&mut self, case: &mut Case) {
+        let (length, room) = (case.memory.len(), marks::room(case.memory.len()));
+        let any = self.below(length as u32 + 1) as usize;
+        let other = self.pick(&[0, room.saturating_sub(1), room + 1, length / 8, length, any]);
+        case.marks.resize(other, 0);
+    }
+
+    /// Bits past the memory's end, which is in the middle of a mark byte, if need be after this.
+    fn mark_past_end(&mut self, case: &mut Case) {
+        if case.memory.len().is_multiple_of(8) {
+            case.memory.truncate(case.memory.len().saturating_sub(4));
+        }
+        let bits = self.pick(&[0x10, 0x20, 0x40, 0x80, 0x90, 0xf0]);
+        case.marks.last_mut().into_iter().for_each(|last| *last |= bits);
     }
 }

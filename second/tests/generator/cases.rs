@@ -12,6 +12,7 @@ use crate::generator::Generator;
 pub struct Case {
     pub state: State,
     pub memory: Vec<u8>,
+    /// A bit for each byte of memory.
     pub marks: Vec<u8>,
     pub tape: Vec<u8>,
 }
@@ -38,7 +39,7 @@ impl Generator {
 
     /// A good input: no refusal answers it.
     pub fn case(&mut self) -> Case {
-        let length = self.pick(&[4, 8, 64, 128, 256, 256, 512, 1024, 4096]);
+        let length = self.pick(&[4, 8, 12, 60, 128, 256, 260, 512, 1024, 4096]);
         let memory = self.memory(length);
         let marks = self.marks(length);
         let state = self.state(length, &memory);
@@ -101,7 +102,11 @@ impl Generator {
             1 | 2 => (length / 2, 3),
             _ => (0, 60),
         };
-        (0..length).map(|place| u8::from(place >= first && self.once_in(often))).collect()
+        let mut marks = vec![0; length.div_ceil(8) as usize];
+        for place in first..length {
+            marks[place as usize / 8] |= u8::from(self.once_in(often)) << (place % 8);
+        }
+        marks
     }
 
     /// A state in form.

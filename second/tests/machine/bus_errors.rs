@@ -107,7 +107,7 @@ fn marks_stay() {
     for (mut rig, bit, ipc) in every_kind() {
         rig.mark(3);
         (rig.state.tf_marked, rig.state.cy_marked) = (true, true);
-        rig.marks[4..LENGTH as usize - 2].fill(1);
+        rig.mark_bytes(4..LENGTH as usize - 2);
         rig.assert_bus_error(bit, ipc);
     }
 }
@@ -183,14 +183,14 @@ fn the_stops_before_it_still_come_first() {
         rig.assert_stops(14);
         let mut rig = Rig::busy(&[access(top, 0, 3, 5)]);
         rig.set(5, LENGTH);
-        rig.marks[1] = 1;
+        rig.mark_byte(1);
         rig.assert_stops(12);
     }
     for jump in LONG_JUMPS {
         let mut rig = Rig::busy(&[]);
         rig.place(LENGTH - 2, &[jump]);
         rig.state.pc = LENGTH - 2;
-        rig.marks[LENGTH as usize - 1] = 1;
+        rig.mark_byte(LENGTH as usize - 1);
         rig.assert_stops(12);
     }
     let mut rig = Rig::busy(&[]);
@@ -249,8 +249,7 @@ fn with_ibase_outside_memory_every_step_is_a_bus_error_until_the_budget_is_used_
 fn a_short_memory_has_no_handler() {
     for (length, pc) in [(4, 16), (8, 16), (12, 16), (16, 16), (20, 18)] {
         let mut rig = Rig::with(&[]);
-        rig.memory = MOVI.to_be_bytes().repeat(length as usize / 2);
-        rig.marks = vec![0; length as usize];
+        rig.remember(MOVI.to_be_bytes().repeat(length as usize / 2));
         rig.state.pc = length;
         assert_eq!(rig.run_steps(2), (10, 2));
         assert_eq!(rig.state.pc, pc, "{length} bytes");

@@ -85,8 +85,7 @@ fn a_movi_at_the_end_completes_and_the_next_step_may_be_an_entry() {
 fn the_edges_are_where_the_memory_ends() {
     for length in [4, 8, 65_532, 65_536_u32] {
         let mut rig = Rig::with(&[]);
-        rig.memory = vec![0x11; length as usize];
-        rig.marks = vec![0; length as usize];
+        rig.remember(vec![0x11; length as usize]);
         rig.place(length - 2, &[0xa035]); // ldrh r3 from r5, its own last two bytes
         rig.state.pc = length - 2;
         rig.set(5, length - 1);

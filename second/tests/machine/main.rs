@@ -9,6 +9,7 @@ mod edges;
 #[path = "../generator/mod.rs"]
 mod generator;
 mod instructions;
+mod mark_bits;
 mod marks;
 mod one_step;
 mod properties;

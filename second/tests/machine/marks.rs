@@ -236,7 +236,7 @@ fn a_loaded_register_is_marked_if_any_byte_loaded_is() {
                 let mut rig = Rig::busy(&[half]);
                 rig.set(5, 0x40);
                 rig.state.registers[3].marked = earlier;
-                rig.marks[place] = 1;
+                rig.mark_byte(place);
                 let loaded = (0x40..0x40 + width).contains(&place);
                 let mut after = rig.clone();
                 assert_eq!(after.run_steps(1), (10, 1));
@@ -251,17 +251,24 @@ fn a_loaded_register_is_marked_if_any_byte_loaded_is() {
 fn a_stored_byte_takes_the_registers_mark_so_an_unmarked_store_clears_one() {
     for (half, width) in [(0x9035, 4), (0xb035, 2), (0xd035, 1)] {
         for marked in [false, true] {
-            for earlier in [0, 1] {
+            for earlier in [false, true] {
                 let mut rig = Rig::busy(&[half]);
                 rig.set(3, 0x1122_3344);
                 rig.set(5, 0x40);
                 rig.state.registers[3].marked = marked;
-                rig.marks[0x20..].fill(earlier);
+                if earlier {
+                    rig.mark_bytes(0x20..LENGTH as usize);
+                }
                 rig.assert_step(|after| {
                     after.state.pc = 2;
                     let bytes = 0x1122_3344_u32.to_be_bytes();
                     after.memory[0x40..0x40 + width].copy_from_slice(&bytes[4 - width..]);
-                    after.marks[0x40..0x40 + width].fill(marked.into());
+                    let stored = 0x40..0x40 + width;
+                    if marked {
+                        after.mark_bytes(stored);
+                    } else {
+                        after.unmark_bytes(stored);
+                    }
                 });
             }
         }
@@ -284,7 +291,7 @@ fn a_marked_register_stored_through_itself_stops() {
 fn a_load_into_its_own_base_marks_it() {
     let mut rig = Rig::busy(&[0x8055, 0x8055]);
     rig.set(5, 0x40);
-    rig.marks[0x43] = 1;
+    rig.mark_byte(0x43);
     assert_eq!(rig.run_steps(2), (14, 1));
     assert!(rig.state.registers[5].marked);
 }
@@ -336,7 +343,7 @@ fn a_marked_register_that_is_not_the_base_may_be_stored() {
     rig.set(5, LENGTH - 4);
     rig.mark(3);
     assert_eq!(rig.run_steps(1), (10, 1));
-    assert_eq!(rig.marks[LENGTH as usize - 4..], [1; 4]);
+    assert_eq!(rig.marks.last(), Some(&0xf0));
 }
 
 /// Entries and their SFR are never marked, and they leave the flags' marks.

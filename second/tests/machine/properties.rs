@@ -151,7 +151,7 @@ fn no_good_input_is_refused_and_a_state_in_form_stays_in_form() {
         let (outcome, after, shown) = observe(rig(&case), &case.tape);
         assert!(!outcome.reply.is_refusal(), "{case:x?}");
         assert!(after.state.in_form(), "{case:x?}");
-        assert!(after.marks.iter().all(|&mark| mark <= 1), "{case:x?}");
+        assert!(!past_end(&after.memory, &after.marks), "{case:x?}");
         assert_eq!(shown.len() as u64, outcome.steps);
         let used_up = outcome.steps == case.tape.len() as u64;
         assert_eq!(used_up, outcome.reply == Reply::BudgetUsed);
@@ -221,6 +221,10 @@ fn marks_never_change_what_the_steps_make() {
     });
 }
 
+fn marked_places(rig: &Rig) -> Vec<usize> {
+    (0..rig.memory.len()).filter(|&place| rig.is_marked(place)).collect()
+}
+
 /// Other contents wherever there is a mark.
 fn scramble(mut rig: Rig, generator: &mut Generator) -> Rig {
     for register in rig.state.registers.iter_mut().filter(|register| register.marked) {
@@ -231,8 +235,8 @@ fn scramble(mut rig: Rig, generator: &mut Generator) -> Rig {
             rig.state.psw ^= flag;
         }
     }
-    for (byte, _) in rig.memory.iter_mut().zip(&rig.marks).filter(|(_, &mark)| mark == 1) {
-        *byte = generator.word() as u8;
+    for place in marked_places(&rig) {
+        rig.memory[place] = generator.word() as u8;
     }
     rig
 }
@@ -247,8 +251,8 @@ fn public(mut rig: Rig) -> Rig {
             rig.state.psw &= !flag;
         }
     }
-    for (byte, _) in rig.memory.iter_mut().zip(&rig.marks).filter(|(_, &mark)| mark == 1) {
-        *byte = 0;
+    for place in marked_places(&rig) {
+        rig.memory[place] = 0;
     }
     rig
 }
@@ -269,13 +273,18 @@ fn two_runs_that_differ_only_in_marked_contents_agree() {
     assert!(told_apart > CASES / 10, "only {told_apart} pairs still differed at the end");
 }
 
-/// The refusal that document 01's table gives, fact by fact.
+/// Whether any bit from the memory's length on is set.
+fn past_end(memory: &[u8], marks: &[u8]) -> bool {
+    (memory.len()..8 * marks.len()).any(|place| marks[place / 8] & 1 << (place % 8) != 0)
+}
+
+/// The refusal that document 01's table and ticket 7 give, fact by fact.
 fn refusal(case: &Case, budget: u64) -> Option<u32> {
     let (state, length) = (&case.state, case.memory.len());
     let facts = [
         !(4..=65_536).contains(&length) || length % 4 > 0,
-        case.marks.len() != length,
-        case.marks.iter().any(|&mark| mark != 0 && mark != 1),
+        case.marks.len() != length.div_ceil(8),
+        past_end(&case.memory, &case.marks),
         state.pc % 2 == 1
             || state.psw >> 12 & 1 == 1
             || state.hwdbg % 4 != 3
@@ -289,11 +298,15 @@ fn refusal(case: &Case, budget: u64) -> Option<u32> {
 
 /// Damages some part of a case, mostly so that it must be refused.
 fn damage(case: &mut Case, budget: &mut u64, generator: &mut Generator) {
-    let place = generator.below(case.memory.len().min(case.marks.len()) as u32) as usize;
+    let place = generator.below(case.memory.len() as u32) as usize;
+    let last = case.marks.len() - 1;
     match generator.below(8) {
         0 => case.memory.truncate(place),
-        1 => case.marks.truncate(place),
-        2 => case.marks[place] = generator.word() as u8,
+        1 => case.marks.resize(place, 0),
+        2 => {
+            case.memory.truncate(case.memory.len().saturating_sub(4));
+            case.marks[last] = generator.word() as u8;
+        }
         3 => case.state.pc = generator.word(),
         4 => case.state.psw |= generator.word() & 1 << 12,
         5 => case.state.hwdbg ^= 1 << generator.below(32),

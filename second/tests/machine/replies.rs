@@ -50,7 +50,7 @@ fn the_numbers_are_those_of_the_table() {
     let table = [
         (1, Reply::MemoryLength),
         (2, Reply::MarkLength),
-        (3, Reply::MarkByte),
+        (3, Reply::MarkPastEnd),
         (4, Reply::StateForm),
         (5, Reply::TapeLength),
         (6, Reply::TapeByte),
@@ -70,7 +70,7 @@ fn reply_1_memory_length_0_above_65_536_or_no_multiple_of_4() {
     let with_length = |length| {
         Input::changed(|input| {
             input.rig.memory.resize(length, 0);
-            input.rig.marks.resize(length, 0);
+            input.rig.marks.resize(length.div_ceil(8), 0);
         })
     };
     for length in [0, 1, 2, 3, 5, 6, 7, 65_533, 65_534, 65_535, 65_537, 65_540, 131_072] {
@@ -83,19 +83,27 @@ fn reply_1_memory_length_0_above_65_536_or_no_multiple_of_4() {
 
 #[test]
 fn reply_2_mark_slice_of_another_length() {
-    for length in [0, 4, 127, 129, 256] {
+    for length in [0, 1, 15, 17, 128, 256] {
         assert_eq!(Input::changed(|input| input.rig.marks.resize(length, 0)), (2, 0), "{length}");
     }
 }
 
+/// Of 124 bytes' 16 mark bytes the last has four bits past the end, of 128 bytes' none has any.
 #[test]
-fn reply_3_a_mark_byte_above_1() {
-    for place in [0, 1, 64, 127] {
-        for byte in [2, 3, 128, 255] {
-            assert_eq!(Input::changed(|input| input.rig.marks[place] = byte), (3, 0));
-        }
+fn reply_3_a_set_bit_past_the_memorys_end() {
+    let marked = |length, byte| {
+        Input::changed(|input| {
+            input.rig.memory.truncate(length);
+            input.rig.marks[15] = byte;
+        })
+    };
+    for byte in [0x10, 0x1f, 0x20, 0x40, 0x80, 0xf0, 0xff] {
+        assert_eq!(marked(124, byte), (3, 0), "{byte:#x}");
+        assert_eq!(marked(128, byte), (10, 3), "{byte:#x}");
     }
-    assert_eq!(Input::changed(|input| input.rig.marks[127] = 1), (10, 3));
+    for byte in [0, 1, 8, 0xf] {
+        assert_eq!(marked(124, byte), (10, 3), "{byte:#x}");
+    }
 }
 
 #[test]
@@ -133,15 +141,16 @@ fn reply_6_a_byte_above_63_among_the_first_budget_tape_bytes() {
 #[test]
 fn refusals_1_to_6_are_checked_in_this_order() {
     let facts: [fn(&mut Input); 6] = [
-        |input| input.rig.memory.truncate(126),
-        |input| input.rig.marks.truncate(125),
-        |input| input.rig.marks[7] = 2,
+        |input| input.rig.memory.truncate(122),
+        |input| input.rig.marks.push(0),
+        |input| input.rig.marks[15] = 0x10,
         |input| input.rig.state.pc = 1,
         |input| input.budget = 4,
         |input| input.tape[1] = 64,
     ];
     for subset in 1_u32..64 {
         let reply = Input::changed(|input| {
+            input.rig.memory.truncate(124);
             let chosen = (0..6).filter(|fact| subset >> fact & 1 == 1);
             chosen.for_each(|fact| facts[fact](input));
         });
@@ -179,7 +188,7 @@ fn assert_third_step_stops(reply: u32, change: impl FnOnce(&mut Rig)) {
 
 #[test]
 fn replies_12_to_14_return_the_completed_steps_and_what_they_made() {
-    assert_third_step_stops(12, |rig| rig.marks[4] = 1);
+    assert_third_step_stops(12, |rig| rig.mark_byte(4));
     assert_third_step_stops(13, |rig| rig.place(4, &[NOTHING]));
     assert_third_step_stops(14, |rig| {
         rig.place(4, &[0x1c05]); // jr r5
@@ -199,19 +208,19 @@ fn at_the_end(half: u16) -> Rig {
 fn reply_12_fetch_from_a_marked_byte() {
     for place in [0, 1] {
         let mut rig = Rig::busy(&[MOVI]);
-        rig.marks[place] = 1;
+        rig.mark_byte(place);
         rig.assert_stops(12);
     }
     for top in [0xe000, 0xe800, 0xf000, 0xf800] {
         for place in 0..4 {
             let mut rig = Rig::busy(&[top, 0]);
-            rig.marks[place] = 1;
+            rig.mark_byte(place);
             rig.assert_stops(12);
         }
     }
     // The half behind an instruction of two bytes isn't fetched.
     let mut rig = Rig::busy(&[MOVI]);
-    rig.marks[2..].fill(1);
+    rig.mark_bytes(2..LENGTH as usize);
     rig.assert_step(|after| {
         after.state.pc = 2;
         after.set(1, 16);
@@ -235,16 +244,16 @@ fn reply_13_bits_that_are_no_instruction() {
 fn inside_one_instruction_the_tests_of_the_first_half_come_first() {
     // First half marked before not an instruction.
     let mut rig = Rig::busy(&[NOTHING]);
-    rig.marks[1] = 1;
+    rig.mark_byte(1);
     rig.assert_stops(12);
     // First half marked before second half outside.
     let mut rig = at_the_end(0xf800);
-    rig.marks[LENGTH as usize - 1] = 1;
+    rig.mark_byte(LENGTH as usize - 1);
     rig.assert_stops(12);
     // Not an instruction, though the half behind it is outside or marked.
     at_the_end(NOTHING).assert_stops(13);
     let mut rig = Rig::busy(&[NOTHING]);
-    rig.marks[2] = 1;
+    rig.mark_byte(2);
     rig.assert_stops(13);
 }
 
@@ -256,7 +265,7 @@ fn inside_one_instruction_the_tests_of_operands_and_data_come_last() {
         outside.state.tf_marked = true;
         outside.assert_bus_error(IBER, LENGTH - 2);
         let mut marked = Rig::busy(&[jump, 0]);
-        marked.marks[3] = 1;
+        marked.mark_byte(3);
         marked.state.tf_marked = true;
         marked.assert_stops(12);
     }
@@ -275,7 +284,7 @@ fn a_program_counter_found_odd_answers_13_before_all_these() {
     for pc in [1, 3, LENGTH + 1, u32::MAX] {
         let mut rig = Rig::busy(&[MOVI, MOVI]);
         rig.state.pc = pc;
-        rig.marks.fill(1);
+        rig.mark_bytes(0..LENGTH as usize);
         let before = rig.clone();
         let stop = step(&mut rig.state, &mut rig.memory, &mut rig.marks, 0);
         assert_eq!(stop, Err(Reply::NoInstruction));
@@ -302,7 +311,7 @@ fn an_odd_program_counter_is_found_only_by_an_instruction() {
 fn a_stopping_step_does_not_let_the_timer_fall() {
     type Change = fn(&mut Rig);
     let stops: [(u32, Change); 3] = [
-        (12, |rig| rig.marks[0] = 1),
+        (12, |rig| rig.mark_byte(0)),
         (13, |rig| rig.place(0, &[NOTHING])),
         (14, |rig| {
             rig.place(0, &[0x9035]);
@@ -322,7 +331,7 @@ fn a_stopping_step_does_not_let_the_timer_fall() {
 #[test]
 fn an_entry_is_made_where_no_instruction_could_be_fetched() {
     let places: [fn(&mut Rig); 3] =
-        [|rig| rig.state.pc = LENGTH, |rig| rig.marks.fill(1), |rig| rig.place(0, &[NOTHING])];
+        [|rig| rig.state.pc = LENGTH, |rig| rig.mark_bytes(0..2), |rig| rig.place(0, &[NOTHING])];
     for place in places {
         let mut rig = Rig::with(&[MOVI]);
         place(&mut rig);

@@ -1,5 +1,7 @@
 //! A machine to set up, step and compare as a whole.
 
+use std::ops::Range;
+
 use second::run::run;
 use second::state::{Register, State};
 
@@ -8,6 +10,7 @@ use second::state::{Register, State};
 pub struct Rig {
     pub state: State,
     pub memory: Vec<u8>,
+    /// A bit for each byte of memory.
     pub marks: Vec<u8>,
 }
 
@@ -26,7 +29,7 @@ impl Rig {
     /// Fresh, with memory that holds these halves from address 0 on.
     pub fn with(halves: &[u16]) -> Rig {
         let memory = vec![0; LENGTH as usize];
-        let marks = memory.clone();
+        let marks = vec![0; LENGTH as usize / 8];
         let mut rig = Rig { state: State::fresh(), memory, marks };
         rig.place(0, halves);
         rig
@@ -71,6 +74,33 @@ impl Rig {
     /// Marks a register.
     pub fn mark(&mut self, n: usize) {
         self.state.registers[n].marked = true;
+    }
+
+    /// Marks bytes of memory. The layout is written here once more, so that the program's own
+    /// doesn't vouch for itself.
+    pub fn mark_bytes(&mut self, places: Range<usize>) {
+        places.for_each(|place| self.marks[place / 8] |= 1 << (place % 8));
+    }
+
+    /// Marks one byte of memory.
+    pub fn mark_byte(&mut self, place: usize) {
+        self.mark_bytes(place..place + 1);
+    }
+
+    /// Takes the marks of bytes away.
+    pub fn unmark_bytes(&mut self, places: Range<usize>) {
+        places.for_each(|place| self.marks[place / 8] &= !(1 << (place % 8)));
+    }
+
+    /// Whether a byte of memory is marked.
+    pub fn is_marked(&self, place: usize) -> bool {
+        self.marks[place / 8] & 1 << (place % 8) != 0
+    }
+
+    /// Other bytes as memory, unmarked.
+    pub fn remember(&mut self, memory: Vec<u8>) {
+        self.marks = vec![0; memory.len().div_ceil(8)];
+        self.memory = memory;
     }
 
     /// The value of a register.

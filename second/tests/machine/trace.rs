@@ -177,8 +177,7 @@ fn loads_and_stores_show_the_aligned_address() {
 #[test]
 fn ldrpc_shows_the_aligned_address_of_the_sixteenth_line() {
     let mut rig = Rig::with(&[]);
-    rig.memory.resize(0x108, 0);
-    rig.marks.resize(0x108, 0);
+    rig.remember(vec![0; 0x108]);
     rig.place(0x102, &[0x4011]);
     rig.state.pc = 0x102;
     assert_line(rig, 0, "00000102 - 0 1 00000104");
@@ -194,7 +193,7 @@ fn a_stopping_step_has_no_line() {
     assert_lines(marked, &[0; 3], 14, &moved);
     // A marked half.
     let mut marked = Rig::with(&[MOVI, MOVI]);
-    marked.marks[3] = 1;
+    marked.mark_byte(3);
     assert_lines(marked, &[0; 3], 12, &moved);
 }
 

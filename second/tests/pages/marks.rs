@@ -8,7 +8,7 @@ use second::word::Width;
 use crate::markdown::{page, rows};
 use crate::rig::Rig;
 
-/// Where the data lies that is loaded, and the base of loads and stores.
+/// Where the data lies that is loaded, and the base of loads and stores. A mark byte begins there.
 const DATA: usize = 64;
 
 /// The marks that instructions read and write, by the page's names.
@@ -139,11 +139,13 @@ fn stepped(instr: Instr, before: Marks, tf: bool) -> Result<Marks, Reply> {
     rig.state.psw = if tf { psw::TF } else { 0 };
     (rig.state.registers[1].marked, rig.state.registers[2].marked) = (before.rd, before.rb);
     (rig.state.tf_marked, rig.state.cy_marked) = (before.tf, before.cy);
-    rig.marks[DATA..DATA + 4].copy_from_slice(&before.data.map(u8::from));
+    for (bit, mark) in before.data.into_iter().enumerate() {
+        rig.marks[DATA / 8] |= u8::from(mark) << bit;
+    }
     rig.step(0)?;
-    let data = std::array::from_fn(|byte| rig.marks[DATA + byte] == 1);
-    rig.marks[DATA..DATA + 4].fill(0);
-    assert!(rig.marks.iter().all(|&mark| mark == 0), "{instr:?} marks no other byte");
+    let data = std::array::from_fn(|bit| rig.marks[DATA / 8] & 1 << bit != 0);
+    rig.marks[DATA / 8] &= 0xf0;
+    assert!(rig.marks.iter().all(|&marks| marks == 0), "{instr:?} marks no other byte");
     let others = rig.state.registers.iter().enumerate().filter(|(n, _)| !(1..=2).contains(n));
     assert!(
         others.into_iter().all(|(_, other)| !other.marked),

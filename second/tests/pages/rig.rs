@@ -10,6 +10,7 @@ use second::step::{step, Step};
 pub struct Rig {
     pub state: State,
     pub memory: Vec<u8>,
+    /// A bit for each byte of memory.
     pub marks: Vec<u8>,
 }
 
@@ -24,7 +25,7 @@ impl Rig {
                 memory[2..4].copy_from_slice(&second.to_be_bytes());
             }
         }
-        let marks = vec![0; memory.len()];
+        let marks = vec![0; memory.len() / 8];
         Rig { state: State::fresh(), memory, marks }
     }
 

@@ -146,7 +146,7 @@ fn the_replies_have_the_numbers_of_the_page() {
     let replies = [
         Reply::MemoryLength,
         Reply::MarkLength,
-        Reply::MarkByte,
+        Reply::MarkPastEnd,
         Reply::StateForm,
         Reply::TapeLength,
         Reply::TapeByte,
@@ -183,7 +183,7 @@ fn hindered() -> [Rig; 8] {
         changed(jf, |rig| rig.state.pc = 128),
         changed(jf, |rig| {
             put_last(rig, 0xfc00);
-            rig.marks[127] = 1;
+            rig.marks[15] = 1 << 7;
         }),
         changed(jf, |rig| put_last(rig, 0xfc00)),
         changed(jf, |rig| {
@@ -191,7 +191,7 @@ fn hindered() -> [Rig; 8] {
             rig.state.tf_marked = true;
         }),
         changed(jf, |rig| {
-            rig.marks[3] = 1;
+            rig.marks[0] = 1 << 3;
             rig.state.tf_marked = true;
         }),
         changed(ldr, |rig| rig.state.registers[2] = Register { marked: true, ..outside }),

@@ -147,8 +147,8 @@ struct Peel {
 /// Every call of the recipe, and the marks of the key state after the run.
 fn peels(name: &str) -> (Vec<Peel>, Vec<u8>) {
     let (mut state, mut memory, mut peels) = (State::fresh(), memory(&example(name)), Vec::new());
-    let mut marks = vec![0; memory.len()];
-    marks[KEY].fill(1);
+    let mut marks = vec![0; memory.len().div_ceil(8)];
+    marks[KEY.start / 8..KEY.end / 8].fill(0xff);
     for number in 1..=200 {
         let [_, layer, count, ..] = state.registers.map(|register| register.value);
         let step = step(&mut state, &mut memory, &mut marks, 0).expect("no stop");
@@ -161,7 +161,7 @@ fn peels(name: &str) -> (Vec<Peel>, Vec<u8>) {
             peels.last_mut().expect("a call").saved = saved;
         }
     }
-    (peels, marks[KEY].to_vec())
+    (peels, marks[KEY.start / 8..KEY.end / 8].to_vec())
 }
 
 /// The page's table of the stack's way down.
@@ -187,8 +187,8 @@ fn the_stack_goes_down_as_the_page_says() {
         assert!(page().contains(&row), "{row}");
     }
     assert!(peels31[11].saved.is_none(), "the content is no layer");
-    assert_eq!(marks31, [[1; 4], [0; 4], [0; 4], [0; 4]].concat());
-    assert_eq!(marks32, [1; 16]);
+    assert_eq!(marks31, [0x0f, 0], "of the key's sixteen bytes the first four are marked");
+    assert_eq!(marks32, [0xff, 0xff]);
 }
 
 #[test]

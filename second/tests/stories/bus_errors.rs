@@ -20,7 +20,7 @@ fn input(name: &str) -> String {
 /// Every step of a run, with the state after it.
 fn steps(name: &str) -> Vec<(Step, State)> {
     let (mut state, mut memory) = (State::fresh(), memory(&input(name)));
-    let mut marks = vec![0; memory.len()];
+    let mut marks = vec![0; memory.len().div_ceil(8)];
     let mut seen = || {
         let step = step(&mut state, &mut memory, &mut marks, 0).expect("no stop");
         (step, state.clone())

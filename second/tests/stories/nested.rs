@@ -31,7 +31,7 @@ impl Seen {
 
 fn steps(name: &str) -> Vec<Seen> {
     let (mut state, mut memory) = (State::fresh(), memory(&example(name)));
-    let mut marks = vec![0; memory.len()];
+    let mut marks = vec![0; memory.len().div_ceil(8)];
     let mut seen = || {
         let step = step(&mut state, &mut memory, &mut marks, 0).expect("no stop");
         Seen { entry: step.entry, pc: step.pc, psw: state.psw }

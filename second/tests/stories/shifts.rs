@@ -24,8 +24,8 @@ fn input(name: &str) -> String {
 fn outcome(name: &str, key: &[u8; 16], marked: bool) -> (Outcome, State) {
     let (mut state, mut memory) = (State::fresh(), memory(&input(name)));
     memory[KEY..KEY + 16].copy_from_slice(key);
-    let mut marks = vec![0; memory.len()];
-    marks[KEY..KEY + 16].fill(marked.into());
+    let mut marks = vec![0; memory.len().div_ceil(8)];
+    marks[KEY / 8..KEY / 8 + 2].fill(if marked { 0xff } else { 0 });
     let outcome = run(&mut state, &mut memory, &mut marks, &[0; 100], 100);
     (outcome, state)
 }

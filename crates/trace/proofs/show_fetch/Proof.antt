@@ -1,3 +1,4 @@
+use Rattle.marks.specs.Memory.{bits}
 use Rattle.trace.proofs.Laws.{seen-halt}
 use Rattle.machine.specs.declared.Data.{Data}
 use borrow.Author.Needs.{needs}
@@ -20,7 +21,7 @@ show-instr-requires : tie.Need-show-instr-requires
 show-instr-requires c κs = search needs
 
 returns : tie.Need-returns
-returns c = rw (c .show-halt .ensures, ← (c .before .before .before .before .fetch .ensures), c .before .before .f .given .1) (seen-halt (c .before .before .f .given .0 .0) Data.Nowhere (c .before .before .before .before .before .before .before .args .s .flags) (c .before .before .before .before .before .before .before .args .s .control) (c .before .before .before .before .before .before .before .args .m .now) (c .before .before .before .before .before .before .before .args .mk .now))
+returns c = rw (c .show-halt .ensures, ← (c .before .before .before .before .fetch .ensures), c .before .before .f .given .1) (seen-halt (c .before .before .f .given .0 .0) Data.Nowhere (c .before .before .before .before .before .before .before .args .s .flags) (c .before .before .before .before .before .before .before .args .s .control) (c .before .before .before .before .before .before .before .args .m .now) (bits (c .before .before .before .before .before .before .before .args .mk .now)))
 
 returns-2 : tie.Need-returns-2
 returns-2 c = rw (c .show-instr .ensures, ← (c .before .before .before .before .fetch .ensures), c .before .before .f2 .given .1)

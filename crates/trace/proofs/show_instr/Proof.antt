@@ -1,3 +1,4 @@
+use Rattle.marks.specs.Memory.{bits}
 use Rattle.trace.proofs.Laws.{seen-instr}
 use borrow.Author.Needs.{needs}
 use Rattle.trace.proofs.show_instr.Statement.{statement}
@@ -28,7 +29,7 @@ show-act-requires : tie.Need-show-act-requires
 show-act-requires c κs = search needs
 
 returns : tie.Need-returns
-returns c = rw (c .show-act .ensures, c .before .address-of .ensures, c .before .before .act-on .ensures, c .before .before .before .mark-in2 .ensures, c .before .before .before .before .value-in2 .ensures, c .before .before .before .before .before .mark-in .ensures, c .before .before .before .before .before .before .value-in .ensures, c .before .before .before .before .before .before .before .before .before .before .sources-of .ensures) (seen-instr (c .before .before .before .before .before .before .before .before .before .before .before .before .before .args .i) (c .before .before .before .before .before .before .before .before .before .before .before .before .before .args .s) (c .before .before .before .before .before .before .before .before .before .before .before .before .before .args .m .now) (c .before .before .before .before .before .before .before .before .before .before .before .before .before .args .mk .now))
+returns c = rw (c .show-act .ensures, c .before .address-of .ensures, c .before .before .act-on .ensures, c .before .before .before .mark-in2 .ensures, c .before .before .before .before .value-in2 .ensures, c .before .before .before .before .before .mark-in .ensures, c .before .before .before .before .before .before .value-in .ensures, c .before .before .before .before .before .before .before .before .before .before .sources-of .ensures) (seen-instr (c .before .before .before .before .before .before .before .before .before .before .before .before .before .args .i) (c .before .before .before .before .before .before .before .before .before .before .before .before .before .args .s) (c .before .before .before .before .before .before .before .before .before .before .before .before .before .args .m .now) (bits (c .before .before .before .before .before .before .before .before .before .before .before .before .before .args .mk .now)))
 
 pub show-instr-spec : {M : Type 1} → statement M
 show-instr-spec =

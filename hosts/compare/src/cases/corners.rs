@@ -66,6 +66,9 @@ fn access(random: &mut Random, draft: &mut Draft) {
     draft.state.wp0 = random.pick(&[aligned, place, aligned.wrapping_add(1)]);
     draft.state.wp1 = random.pick(&[aligned, draft.state.wp1]);
     draft.state.hwdbg |= random.pick(&[0, hwdbg::WP0, hwdbg::WP1, hwdbg::WP0 | hwdbg::WP1]);
+    if random.once_in(3) {
+        mark_around(random, draft, aligned as usize);
+    }
     let store = random.once_in(2);
     let access = if store {
         Instr::Store { width, rd, uimm4, rb }
@@ -84,4 +87,12 @@ fn far_displacement(random: &mut Random, pc: u32, length: u32) -> u32 {
 /// Puts an instruction at the program counter, as far as memory goes.
 fn plant(draft: &mut Draft, instr: Instr) {
     code::place_what_fits(&mut draft.memory, draft.state.pc, instr);
+}
+
+/// Any marks for the eight bytes whose mark byte is this address's, none past the end.
+fn mark_around(random: &mut Random, draft: &mut Draft, address: usize) {
+    let first = address / 8 * 8;
+    let inside = draft.memory.len().saturating_sub(first).min(8);
+    let any = random.below(1 << inside) as u8;
+    draft.marks.get_mut(address / 8).into_iter().for_each(|byte| *byte = any);
 }

@@ -1,5 +1,6 @@
 //! Inputs that are refused, and records that are out of shape.
 
+use second::marks;
 use second::state::psw;
 
 use super::Draft;
@@ -7,18 +8,16 @@ use crate::random::Random;
 
 /// Damages some part of a case, mostly so that it must be refused.
 pub fn draft(random: &mut Random, draft: &mut Draft) {
-    let length = draft.memory.len().min(draft.marks.len());
-    let place = random.below(length.max(1) as u32) as usize;
+    let length = draft.memory.len();
     match random.below(14) {
-        0 => draft.memory.truncate(place),
+        0 => draft.memory.truncate(random.below(length.max(1) as u32) as usize),
         1 => {
             let shorter = random.pick(&[0, 1, 2, 3]);
             draft.memory.truncate(shorter * length / 4 + shorter);
-            draft.marks.truncate(draft.memory.len());
+            draft.marks.truncate(marks::room(draft.memory.len()));
         }
-        2 => draft.marks.resize(place + 1, 0),
-        3 => draft.marks.extend([0; 4]),
-        4 | 5 if length > 0 => draft.marks[place] = random.pick(&[2, 3, 128, 254, 255]),
+        2 | 3 => resize_marks(random, draft),
+        4 | 5 => mark_past_end(random, draft),
         6 => draft.state.pc |= 1,
         7 => draft.state.psw |= psw::TR,
         8 => draft.state.hwdbg ^= 1 << random.below(32),
@@ -37,11 +36,29 @@ pub fn draft(random: &mut Random, draft: &mut Draft) {
     }
 }
 
-/// Memory and marks of a length above 65,536.
+/// Marks of another length: none, a byte too few or too many, rounded down, a byte for each byte of
+/// memory as before ticket 7, or any.
+fn resize_marks(random: &mut Random, draft: &mut Draft) {
+    let (length, room) = (draft.memory.len(), marks::room(draft.memory.len()));
+    let any = random.below(length as u32 + 1) as usize;
+    let other = random.pick(&[0, room.saturating_sub(1), room + 1, length / 8, length, any]);
+    draft.marks.resize(other, 0);
+}
+
+/// Bits past the memory's end, which is in the middle of a mark byte, if need be after this.
+fn mark_past_end(random: &mut Random, draft: &mut Draft) {
+    if draft.memory.len().is_multiple_of(8) {
+        draft.memory.truncate(draft.memory.len().saturating_sub(4));
+    }
+    let bits = random.pick(&[0x10, 0x20, 0x40, 0x80, 0x90, 0xf0]);
+    draft.marks.last_mut().into_iter().for_each(|last| *last |= bits);
+}
+
+/// Memory of a length above 65,536, with room for its marks.
 fn too_long(random: &mut Random, draft: &mut Draft) {
     let length = random.pick(&[65_537, 65_538, 65_540, 65_540]);
     draft.memory.resize(length, 0);
-    draft.marks.resize(length, 0);
+    draft.marks.resize(marks::room(length), 0);
 }
 
 /// Damages a record, mostly so that it is out of shape.

@@ -41,7 +41,10 @@ impl Cases {
                 let bit = 1 << random.below(8);
                 draft.memory.get_mut(place).into_iter().for_each(|byte| *byte ^= bit);
             }
-            9 => draft.marks.get_mut(place).into_iter().for_each(|mark| *mark ^= 1),
+            9 => {
+                let bit = 1 << (place % 8);
+                draft.marks.get_mut(place / 8).into_iter().for_each(|byte| *byte ^= bit);
+            }
             10 => {
                 let address = place as u32 & !1;
                 code::place_what_fits(&mut draft.memory, address, self.code.any(random));

@@ -2,6 +2,7 @@
 
 use second::corpus::{AssemblyCase, AssemblyCoverage};
 
+use super::add_counts;
 use crate::assembly::Assembled;
 
 /// The kind of a call's answer, and the names of the answers behind `done`, by number from 29 on.
@@ -34,6 +35,13 @@ impl Texts {
             other => panic!("{other} is no reply of an assembler"),
         }
         self.coverage.add(case, assembled.answer());
+    }
+
+    /// Adds what other cases reached.
+    pub fn join(&mut self, other: &Texts) {
+        self.done += other.done;
+        self.refusals.iter_mut().zip(other.refusals).for_each(|(sum, more)| *sum += more);
+        add_counts(&mut self.coverage.lines, &other.coverage.lines);
     }
 
     /// Every line with its count. What listings have too is told apart by its kind.

@@ -80,7 +80,7 @@ fn data() -> Vec<Case> {
             access("the sum at 2^32 - 1", 15, u32::MAX - 15 * size),
             access("an unaligned address", 0, LENGTH + 3),
             access("of a marked register", 0, LENGTH).marked(3, 9),
-            access("every byte marked", 0, LENGTH).with(|case| case.marks[2..].fill(1)),
+            access("every byte marked", 0, LENGTH).mark_all(2..LENGTH),
             access("its own base", 0, LENGTH).at(0, &[(name, &[5, 0, 5])]),
             access("as the last instruction", 0, LENGTH)
                 .at(LENGTH - 2, &[(name, &[3, 0, 5])])

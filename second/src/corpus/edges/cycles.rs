@@ -207,9 +207,12 @@ fn marked() -> Vec<Case> {
         ]);
         let own: &[Line] = &[(name, &[3, 5]), ("movi", &[5, 1]), (name, &[3, 5])];
         let case = edge(format!("{name} in a second step by a marked one"), own).register(5, 8);
-        let marks = |case: &mut Case| case.marks[0x20..].fill(1);
         cases.push(
-            case.at(2, &[("ldr", &[5, 0, 6])]).register(6, 0x20).with(marks).steps(3).gives(14, 2),
+            case.at(2, &[("ldr", &[5, 0, 6])])
+                .register(6, 0x20)
+                .mark_all(0x20..LENGTH)
+                .steps(3)
+                .gives(14, 2),
         );
     }
     cases.push(edge("mult by a marked register", &[("mult", &[3, 5])]).marked(5, 9).costs(2));

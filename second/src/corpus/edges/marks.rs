@@ -49,11 +49,10 @@ fn stores() -> Vec<Case> {
     for name in ["str", "strh", "strb"] {
         let store =
             |what: &str| edge(format!("{name} {what}"), &[(name, &[3, 0, 5])]).register(5, 0x22);
-        let all_marked = |case: &mut Case| case.marks[8..].fill(1);
         cases.extend([
-            store("of an unmarked register clears marks").with(all_marked),
+            store("of an unmarked register clears marks").mark_all(8..LENGTH),
             store("of a marked register sets marks").marked(3, 0x1234_5678),
-            store("of a marked register over marks").marked(3, 0x1234_5678).with(all_marked),
+            store("of a marked register over marks").marked(3, 0x1234_5678).mark_all(8..LENGTH),
             store("to a marked base").marked(5, 0x22).gives(14, 0),
         ]);
     }

@@ -6,35 +6,18 @@ use crate::state::psw;
 use crate::step::Access;
 
 pub fn cases() -> Vec<Case> {
-    [lengths(), marks(), forms(), tapes(), pairs(), budgets(), stops(), stop_order()].concat()
+    [lengths(), forms(), tapes(), pairs(), budgets(), stops(), stop_order()].concat()
 }
 
 fn movi(name: impl Into<String>) -> Case {
     edge(name, &[("movi", &[1, 16]), ("movi", &[2, 7])])
 }
 
-/// Refusal 1 by each of its clauses, with as many marks.
+/// Refusal 1 by each of its clauses, with room for as many marks.
 fn lengths() -> Vec<Case> {
     [0, 1, 2, 3, 5, 6, 62, 63, 65_540]
         .map(|length| movi(format!("memory of {length} bytes")).length(length).gives(1, 0))
         .to_vec()
-}
-
-/// Refusals 2 and 3.
-fn marks() -> Vec<Case> {
-    let marks = |name: &str, length| movi(name).with(|case| case.marks.resize(length, 0));
-    let byte =
-        |name: &str, place: u32, value| movi(name).with(|case| case.marks[place as usize] = value);
-    vec![
-        marks("no marks", 0).gives(2, 0),
-        marks("a mark too few", 63).gives(2, 0),
-        marks("a mark too many", 65).gives(2, 0),
-        marks("four marks too many", 68).gives(2, 0),
-        byte("a mark byte of 2 at the start", 0, 2).gives(3, 0),
-        byte("a mark byte of 2 at the end", LENGTH - 1, 2).gives(3, 0),
-        byte("a mark byte of 255", 31, 255).gives(3, 0),
-        byte("a mark byte of 254 after marks of 1", 31, 254).mark(30).gives(3, 0),
-    ]
 }
 
 /// Refusal 4 by each of its clauses, and states that are just in form.
@@ -84,11 +67,12 @@ fn tapes() -> Vec<Case> {
     ]
 }
 
-/// What brings each of the refusals 1 to 6 about.
+/// What brings each of the refusals 1 to 6 about in a memory of 60 bytes, whose last mark byte is
+/// half past the end.
 const FAULTS: [fn(&mut Case); 6] = [
-    |case| case.memory.truncate(62),
-    |case| case.marks.truncate(60),
-    |case| case.marks[8] = 2,
+    |case| case.memory.truncate(58),
+    |case| case.marks.push(0),
+    |case| case.marks[7] = 0x10,
     |case| case.state.psw |= psw::TR,
     |case| case.budget = 3,
     |case| case.tape[0] = 64,
@@ -96,7 +80,8 @@ const FAULTS: [fn(&mut Case); 6] = [
 
 /// Two faults at once, and all from one on: the earlier refusal is given.
 fn pairs() -> Vec<Case> {
-    let faulty = |name: String| movi(name).steps(2);
+    let code = [("movi", &[1, 16][..]), ("movi", &[2, 7])];
+    let faulty = |name: String| edge(name, &[]).length(60).at(0, &code).steps(2);
     let mut cases = Vec::new();
     for (first, earlier) in (1..).zip(FAULTS) {
         for (second, later) in (1..).zip(FAULTS).skip(first as usize) {
@@ -107,9 +92,9 @@ fn pairs() -> Vec<Case> {
         let all = FAULTS.into_iter().skip(first as usize - 1).fold(all, Case::with);
         cases.push(all.gives(first, 0));
     }
-    // Memory of another length than the marks, where the memory's length is good.
+    // Memory of another length than the marks are for, where the memory's length is good.
     let case = faulty("a good memory length and other marks".to_string());
-    cases.push(case.with(|case| case.memory.truncate(60)).gives(2, 0));
+    cases.push(case.with(|case| case.memory.truncate(56)).gives(2, 0));
     cases
 }
 

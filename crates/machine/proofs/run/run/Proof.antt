@@ -1,5 +1,6 @@
 use mathlib.Core.Path.{refl, sym, _∙_}
 use native.Mathlib.Omega.{arith}
+use Rattle.marks.specs.Memory.{bits}
 use Rattle.machine.specs.Run.{runOf}
 use Rattle.machine.proofs.Laws.{long-tape}
 use borrow.Author.Needs.{needs}
@@ -18,7 +19,7 @@ enum-told c = search needs
 steps-requires : tie.Need-steps-requires
 steps-requires c κs =
     let a = c .before .before .before .before .before .before .before .before .before .before .args in
-    omega (arith, long-tape (a .b) (a .t .now) (a .s) (a .m .now) (a .k .now) (sym (c .before .before .before .before .judge-all .ensures) ∙ c .before .before .enum-told .given .1))
+    omega (arith, long-tape (a .b) (a .t .now) (a .s) (a .m .now) (bits (a .k .now)) (sym (c .before .before .before .before .judge-all .ensures) ∙ c .before .before .enum-told .given .1))
 
 same-length : tie.Need-same-length
 same-length c = search needs

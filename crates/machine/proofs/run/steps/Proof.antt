@@ -5,6 +5,7 @@ use mathlib.Core.Path.{_≡_, refl, sym, ap, _∙_}
 use borrow.Author.Tests.{not-false}
 use lib.ListN.{length, length-set}
 use lib.Seq.{set-out}
+use Rattle.marks.specs.Memory.{bits}
 use Rattle.instruction.specs.Parts.{flags}
 use Rattle.machine.specs.Parts.{stateOf}
 use Rattle.machine.specs.Run.{Final, stepsOf}
@@ -14,7 +15,7 @@ use Rattle.machine.proofs.run.steps.Tie as tie
 
 abbrev Inv-loop : tie.InvT-loop
 Inv-loop b t m₀ k₀ regs₀ marks₀ tf₀ cy₀ control₀ n₀ m k regs marks tf cy control n =
-    (n ≤ b) × (length m ≡ length m₀) × (length k ≡ length k₀) × (stepsOf (b - n) n t (stateOf regs marks (flags tf cy) control) m k ≡ stepsOf b 0 t (stateOf regs₀ marks₀ (flags tf₀ cy₀) control₀) m₀ k₀) × (length regs ≡ 16) × (length marks ≡ 16)
+    (n ≤ b) × (length m ≡ length m₀) × (length k ≡ length k₀) × (stepsOf (b - n) n t (stateOf regs marks (flags tf cy) control) m (bits k) ≡ stepsOf b 0 t (stateOf regs₀ marks₀ (flags tf₀ cy₀) control₀) m₀ (bits k₀)) × (length regs ≡ 16) × (length marks ≡ 16)
 
 abbrev μ-loop : tie.MeasureT-loop
 μ-loop b t m₀ k₀ regs₀ marks₀ tf₀ cy₀ control₀ n₀ m k regs marks tf cy control n = b - n

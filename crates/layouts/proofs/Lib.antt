@@ -1,0 +1,4 @@
+pub mod Places
+pub mod Step
+pub mod Run
+pub mod Theorems
