@@ -23,6 +23,7 @@ mod assemble;
 mod call;
 mod list;
 mod reply;
+mod show;
 mod shown;
 mod state;
 
@@ -30,6 +31,7 @@ pub use assemble::{assemble, AssembleError, AssembleRefusal, Assembled};
 pub use call::run_record;
 pub use list::{list, ListError, LISTING_ROOM};
 pub use reply::{Error, Outcome, Reply};
+pub use show::{show, Entry, Line};
 pub use state::{Register, State, RECORD_LENGTH};
 
 /// Runs over the lent memory and marks, at most `budget` steps, one tape byte for each.

@@ -1,0 +1,146 @@
+//! What a watched run remembers: its last steps, the entries it is in, and for each place and each
+//! byte the last instruction that wrote it. However long the run is, this has a bounded size.
+
+use std::collections::VecDeque;
+use std::rc::Rc;
+
+use manik::{Entry, Line};
+
+use crate::instruction::Instruction;
+use crate::place::{self, Places};
+use crate::watch::Step;
+
+/// How many steps are remembered.
+const LAST: usize = 20;
+
+/// How many entries are remembered; of more, the inner ones.
+const NESTED: usize = 16;
+
+/// A step that was made, and the contents of what it wrote, none where they are marked.
+#[derive(Clone)]
+pub struct Past {
+    pub number: u64,
+    pub line: Line,
+    pub instruction: Option<Rc<Instruction>>,
+    pub written: Vec<(u8, Option<u32>)>,
+}
+
+/// An entry that has not returned.
+#[derive(Clone, Copy)]
+pub struct Nested {
+    pub step: u64,
+    /// The program counter from which it was entered.
+    pub from: u32,
+    pub entry: Entry,
+}
+
+/// The last instruction that wrote something.
+#[derive(Clone)]
+pub struct Origin {
+    pub step: u64,
+    pub instruction: Rc<Instruction>,
+    /// Its data address.
+    pub address: Option<u32>,
+    /// What it was made from and was marked.
+    pub marked: Places,
+}
+
+/// What is told of a moment: the steps up to it, and the entries that have not returned.
+#[derive(Clone, Default)]
+pub struct Moment {
+    pub steps: Vec<Past>,
+    /// From the outermost on.
+    pub nested: Vec<Nested>,
+    /// Entries around these that were too many to remember.
+    pub around: u64,
+}
+
+pub struct History {
+    last: VecDeque<Past>,
+    nested: VecDeque<Nested>,
+    around: u64,
+    places: [Option<Origin>; place::COUNT],
+    bytes: Vec<Option<Origin>>,
+}
+
+impl History {
+    pub fn new(memory: usize) -> History {
+        History {
+            last: VecDeque::with_capacity(LAST),
+            nested: VecDeque::new(),
+            around: 0,
+            places: std::array::from_fn(|_| None),
+            bytes: vec![None; memory],
+        }
+    }
+
+    pub fn step(&mut self, step: &Step) {
+        self.remember(step);
+        self.enter(step);
+        if let Some(instruction) = step.instruction {
+            self.write(step, instruction);
+        }
+    }
+
+    fn remember(&mut self, step: &Step) {
+        // The room of the step that is forgotten is used again.
+        let mut written = match self.last.len() {
+            LAST => self.last.pop_front().map_or(Vec::new(), |past| past.written),
+            _ => Vec::new(),
+        };
+        written.clear();
+        let state = &step.machine.state;
+        written.extend(step.written.iter().map(|place| (place, place::content(state, place))));
+        let instruction = step.instruction.cloned();
+        self.last.push_back(Past { number: step.number, line: step.line, instruction, written });
+    }
+
+    fn enter(&mut self, step: &Step) {
+        if step.instruction.is_some_and(|instruction| instruction.effect.returns) {
+            match self.nested.pop_back() {
+                Some(_) => (),
+                None => self.around = self.around.saturating_sub(1),
+            }
+        }
+        if let Some(entry) = step.line.entry {
+            if self.nested.len() == NESTED {
+                self.nested.pop_front();
+                self.around += 1;
+            }
+            self.nested.push_back(Nested { step: step.number, from: step.line.pc, entry });
+        }
+    }
+
+    fn write(&mut self, step: &Step, instruction: &Rc<Instruction>) {
+        let origin = || Origin {
+            step: step.number,
+            instruction: Rc::clone(instruction),
+            address: step.line.address,
+            marked: instruction.effect.reads.and(step.marked),
+        };
+        for place in step.written.iter() {
+            self.places[usize::from(place)] = Some(origin());
+        }
+        for at in step.stored().into_iter().flatten() {
+            self.bytes[at] = Some(origin());
+        }
+    }
+
+    /// The last instruction that wrote a place.
+    pub fn place(&self, place: u8) -> Option<&Origin> {
+        self.places[usize::from(place)].as_ref()
+    }
+
+    /// The last instruction that wrote a byte.
+    pub fn byte(&self, at: usize) -> Option<&Origin> {
+        self.bytes.get(at)?.as_ref()
+    }
+
+    pub fn moment(&self) -> Moment {
+        Moment {
+            steps: self.last.iter().cloned().collect(),
+            nested: self.nested.iter().copied().collect(),
+            around: self.around,
+        }
+    }
+}
