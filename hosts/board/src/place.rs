@@ -35,10 +35,6 @@ impl Places {
         self.0 >> place & 1 != 0
     }
 
-    pub const fn is_empty(self) -> bool {
-        self.0 == 0
-    }
-
     /// From the lowest on.
     pub fn iter(self) -> impl Iterator<Item = u8> {
         let mut left = self.0;
@@ -121,7 +117,7 @@ mod tests {
     fn sets() {
         let set = Places::NONE.with(3).with(TF).with(sfr(10));
         assert_eq!(set.iter().collect::<Vec<_>>(), [3, 16, 28]);
-        assert!(set.has(TF) && !set.has(CY) && Places::NONE.is_empty());
+        assert!(set.has(TF) && !set.has(CY));
         assert_eq!(set.iter().map(name).collect::<Vec<_>>(), ["r3", "tf", "wp1"]);
     }
 

@@ -1,6 +1,7 @@
 //! One call: runs, looks for the reason where there is one to tell, and writes what was asked for.
 
 use std::ops::Range;
+use std::path::Path;
 
 use manik::Reply;
 
@@ -150,5 +151,6 @@ fn picture(report: &Report, watchers: &Watchers) -> Result<Option<String>, Strin
         Some(Note { step: first.step, value: Some(first.address), words })
     });
     let end = Note { step: steps, value, words };
-    plot.svg(&report.image, &end, &notes.collect::<Vec<_>>()).map(Some)
+    let title = Path::new(&report.image).file_name().map_or_else(String::new, |name| name.to_string_lossy().into_owned());
+    plot.svg(&title, &end, &notes.collect::<Vec<_>>()).map(Some)
 }
