@@ -100,11 +100,16 @@ fn special(name: &str, one: &str, two: &str) -> Effect {
     let flags = Set::from(TF).with(CY.into());
     let flags_of = |field| if sfr(field) == Some(0) { flags } else { Set::default() };
     match name {
-        "jsfr" => Effect { needs: flags_of(one).0, returns: sfr(one) == Some(2), ..Effect::default() },
+        "jsfr" => {
+            Effect { needs: flags_of(one).0, returns: sfr(one) == Some(2), ..Effect::default() }
+        }
         "mfsfr" => writing(register(one), flags_of(two)),
         _ => {
             let written = sfr(one).map_or(Set::default(), |n| Set::from(place::sfr(n)));
-            Effect { needs: register(two).0, ..writing(written.with(flags_of(one)), Set::default()) }
+            Effect {
+                needs: register(two).0,
+                ..writing(written.with(flags_of(one)), Set::default())
+            }
         }
     }
 }

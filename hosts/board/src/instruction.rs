@@ -50,7 +50,8 @@ impl Listing {
 
     /// The instruction at an address; none where there are no two bytes.
     pub fn at(&mut self, memory: &[u8], address: u32) -> Option<&Rc<Instruction>> {
-        let known = self.known.get_mut(address as usize / 2).filter(|_| address.is_multiple_of(2))?;
+        let known =
+            self.known.get_mut(address as usize / 2).filter(|_| address.is_multiple_of(2))?;
         if !known.as_ref().is_some_and(|known| known.is_at(memory)) {
             *known = list(memory, address).map(Rc::new);
         }
@@ -87,6 +88,9 @@ mod tests {
         memory[5] = 0;
         assert_eq!(words(&memory, 2).as_deref(), Some("jl 2"));
         assert_eq!(words(&memory, 6).as_deref(), Some("half 0xf800"));
-        assert_eq!((words(&memory, 1), words(&memory, 8), words(&memory, u32::MAX)), (None, None, None));
+        assert_eq!(
+            (words(&memory, 1), words(&memory, 8), words(&memory, u32::MAX)),
+            (None, None, None)
+        );
     }
 }

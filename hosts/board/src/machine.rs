@@ -18,8 +18,7 @@ impl Machine {
         // INTERIM, until the library of ticket 7 stands: it takes `self.marks.bits_mut()` where
         // `bytes` is, and the two lines around the call go away with `as_bytes` and `from_bytes`.
         let mut bytes = as_bytes(&self.marks, self.memory.len());
-        let outcome =
-            manik::run(&mut self.state, &mut self.memory, &mut bytes, tape, budget);
+        let outcome = manik::run(&mut self.state, &mut self.memory, &mut bytes, tape, budget);
         from_bytes(&mut self.marks, &bytes);
         outcome.map_err(|error| error.to_string())
     }

@@ -66,7 +66,10 @@ mod tests {
         marks.set(0..1);
         marks.set(7..10);
         assert_eq!(marks.bits(), [0x81, 0x03]);
-        assert_eq!((marks.get(0), marks.get(1), marks.get(9), marks.get(10)), (true, false, true, false));
+        assert_eq!(
+            (marks.get(0), marks.get(1), marks.get(9), marks.get(10)),
+            (true, false, true, false)
+        );
         assert_eq!(marks.count(1..12), 3);
         assert!(marks.any(9..12) && !marks.any(10..12));
         assert_eq!(marks.ranges(12), [0..1, 7..10]);

@@ -180,8 +180,11 @@ fn check(options: &Options) -> Result<(), String> {
 /// No two outputs are one.
 fn check_outputs(options: &Options) -> Result<(), String> {
     let Options { json, trace, plot, save_state, save_memory, .. } = options;
-    let outputs: Vec<&Path> =
-        [json, trace, plot, save_state, save_memory].into_iter().flatten().map(|path| &**path).collect();
+    let outputs: Vec<&Path> = [json, trace, plot, save_state, save_memory]
+        .into_iter()
+        .flatten()
+        .map(|path| &**path)
+        .collect();
     match (1..outputs.len()).find(|&n| outputs[..n].contains(&outputs[n])) {
         Some(n) => Err(format!("{}: two outputs go there", outputs[n].display())),
         None => Ok(()),
@@ -199,20 +202,31 @@ mod tests {
     #[test]
     fn one_line_for_each_wrong_call() {
         let cases = [
-            ("--budget 1", "the following required arguments were not provided: <IMAGE>"),
-            ("a --budget x", "invalid value 'x' for '--budget <N>': no decimal number, nor a hex one after 0x"),
+            ("a --budget x", ": no decimal number, nor a hex one after 0x"),
             ("a --size 6", "--size 6: memory length is 0, above 65,536, or no multiple of 4"),
-            ("a --mark k=0xfff0:17", "--mark: 17 bytes from 0xfff0 on are no part of 65536 bytes of memory"),
+            (
+                "a --mark k=0xfff0:17",
+                "--mark: 17 bytes from 0xfff0 on are no part of 65536 bytes of memory",
+            ),
             ("a --mark k=0:4 --mark k=8:4", "--mark: k is named twice"),
             ("a --keep k", "--keep: no --mark names k"),
-            ("a --expect 11", "invalid value '11' for '--expect <REPLY>': a run ends with 10, 12, 13 or 14"),
+            ("a --expect 11", ": a run ends with 10, 12, 13 or 14"),
             ("a --json x --plot x", "x: two outputs go there"),
             ("a --trace x --from 3 --to 2", "--from 3 is above --to 2"),
         ];
         for (words, why) in cases {
-            assert_eq!(error(words), why);
+            // What stands before a colon is clap's, and other versions have other words.
+            assert!(error(words).ends_with(why), "{words}: {}", error(words));
         }
-        for words in ["a b", "a --from 1", "a --tape x --lines y", "a --what", "a --mark 5", "a --mark =5:1"] {
+        for words in [
+            "--budget 1",
+            "a b",
+            "a --from 1",
+            "a --tape x --lines y",
+            "a --what",
+            "a --mark 5",
+            "a --mark =5:1",
+        ] {
             assert!(!error(words).is_empty() && !error(words).contains('\n'), "{words}");
         }
     }

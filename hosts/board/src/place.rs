@@ -95,8 +95,17 @@ pub fn content(state: &State, place: u8) -> Option<u32> {
 /// SFR 0 to 10.
 fn special(state: &State) -> [u32; 11] {
     [
-        psw(state), state.ra, state.ipc, state.timer, state.ibase, state.usreg, state.hwdbg,
-        state.bp0, state.bp1, state.wp0, state.wp1,
+        psw(state),
+        state.ra,
+        state.ipc,
+        state.timer,
+        state.ibase,
+        state.usreg,
+        state.hwdbg,
+        state.bp0,
+        state.bp1,
+        state.wp0,
+        state.wp1,
     ]
 }
 
@@ -127,7 +136,10 @@ mod tests {
         state.registers[2] = manik::Register { value: 7, marked: true };
         assert_eq!(marked(&state), Places::NONE.with(2).with(CY));
         let shown = |place| shown(place, content(&state, place));
-        assert_eq!([shown(2), shown(1), shown(TF), shown(CY)], ["********", "00000000", "1", "********"]);
+        assert_eq!(
+            [shown(2), shown(1), shown(TF), shown(CY)],
+            ["********", "00000000", "1", "********"]
+        );
         assert_eq!(shown(sfr(0)), "00000000");
         assert_eq!(shown(sfr(6)), "00000003");
     }

@@ -19,11 +19,8 @@ const STACK: RGBColor = RGBColor(31, 119, 180);
 const ENTRY: RGBColor = RGBColor(44, 160, 44);
 
 type Drawn = Result<(), Box<dyn std::error::Error>>;
-type Chart<'a, 'b> = ChartContext<
-    'a,
-    SVGBackend<'b>,
-    Cartesian2d<RangedCoordu64, WithKeyPoints<RangedCoordi64>>,
->;
+type Chart<'a, 'b> =
+    ChartContext<'a, SVGBackend<'b>, Cartesian2d<RangedCoordu64, WithKeyPoints<RangedCoordi64>>>;
 
 /// A part of memory that is drawn as a band.
 pub struct Band {

@@ -52,8 +52,20 @@ impl Report<'_> {
 
 /// The bits of PSW that stand for themselves, and TF and CY, which are told apart.
 const PSW: [(u32, &str); 14] = [
-    (0, "SW"), (1, "EI"), (2, "TI"), (3, "IP"), (4, "TE"), (5, "IE"), (6, "BIP"), (7, "PD"),
-    (10, "BD"), (11, "II"), (12, "TR"), (13, "SS"), (14, "DBER"), (15, "IBER"),
+    (0, "SW"),
+    (1, "EI"),
+    (2, "TI"),
+    (3, "IP"),
+    (4, "TE"),
+    (5, "IE"),
+    (6, "BIP"),
+    (7, "PD"),
+    (10, "BD"),
+    (11, "II"),
+    (12, "TR"),
+    (13, "SS"),
+    (14, "DBER"),
+    (15, "IBER"),
 ];
 
 /// The names of the bits of PSW that are set, without TF and CY.
@@ -73,7 +85,8 @@ pub fn psw_flags(state: &State) -> Vec<String> {
 /// The names of the bits of HWDBG that are set.
 pub fn hwdbg_flags(state: &State) -> Vec<String> {
     const NAMES: [&str; 9] = [
-        "BPENB", "WPENB", "BP0_ENB", "BP1_ENB", "WP0_ENB", "WP1_ENB", "BP_HIT", "WP0_HIT", "WP1_HIT",
+        "BPENB", "WPENB", "BP0_ENB", "BP1_ENB", "WP0_ENB", "WP1_ENB", "BP_HIT", "WP0_HIT",
+        "WP1_HIT",
     ];
     let is_set = |&(n, _): &(usize, &str)| state.hwdbg >> n & 1 != 0;
     NAMES.into_iter().enumerate().filter(is_set).map(|(_, name)| name.into()).collect()
@@ -116,6 +129,9 @@ mod tests {
 
     #[test]
     fn times() {
-        assert_eq!([time(0.0), time(0.000_012_5), time(0.25), time(61.5)], ["0.000 us", "12.500 us", "250.000 ms", "61.500 s"]);
+        assert_eq!(
+            [time(0.0), time(0.000_012_5), time(0.25), time(61.5)],
+            ["0.000 us", "12.500 us", "250.000 ms", "61.500 s"]
+        );
     }
 }

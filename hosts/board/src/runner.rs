@@ -33,7 +33,8 @@ pub fn run(options: &Options) -> Result<bool, String> {
     let Setup { machine, tape, budget, .. } = &mut setup;
     let ended = session::run(machine, tape, *budget, &window, &mut watchers)?;
     watchers.checks.end(ended.steps, setup.machine.state.pc);
-    let is_asked = options.why || ended.reply != Reply::BudgetUsed || fails_at_its_end(&watchers, ended);
+    let is_asked =
+        options.why || ended.reply != Reply::BudgetUsed || fails_at_its_end(&watchers, ended);
     if is_asked && window != ALL {
         watch_again(&start, &mut setup, ended, &mut watchers)?;
     }
@@ -120,12 +121,7 @@ impl Parts {
         }
     }
 
-    fn report<'a>(
-        self,
-        options: &Options,
-        setup: &'a Setup,
-        watchers: &'a Watchers,
-    ) -> Report<'a> {
+    fn report<'a>(self, options: &Options, setup: &'a Setup, watchers: &'a Watchers) -> Report<'a> {
         Report {
             image: options.image.display().to_string(),
             ended: self.ended,
@@ -147,10 +143,13 @@ fn picture(report: &Report, watchers: &Watchers) -> Result<Option<String>, Strin
     let words = format!("reply {} after {steps} steps", reply.number());
     let notes = report.checks.regions.iter().filter_map(|region| {
         let first = region.stored.as_ref()?;
-        let words = format!("step {}: {} into {}", first.step, first.instruction.words(), region.name);
+        let words =
+            format!("step {}: {} into {}", first.step, first.instruction.words(), region.name);
         Some(Note { step: first.step, value: Some(first.address), words })
     });
     let end = Note { step: steps, value, words };
-    let title = Path::new(&report.image).file_name().map_or_else(String::new, |name| name.to_string_lossy().into_owned());
+    let title = Path::new(&report.image)
+        .file_name()
+        .map_or_else(String::new, |name| name.to_string_lossy().into_owned());
     plot.svg(&title, &end, &notes.collect::<Vec<_>>()).map(Some)
 }

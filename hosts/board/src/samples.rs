@@ -97,7 +97,8 @@ mod tests {
         }
         assert!(samples.buckets.len() <= MOST);
         assert_eq!(samples.width, 16);
-        let lowest = samples.iter().filter_map(|(_, bucket)| bucket.range).map(|range| range.0).min();
+        let lowest =
+            samples.iter().filter_map(|(_, bucket)| bucket.range).map(|range| range.0).min();
         assert_eq!(lowest, Some(7));
         let entries: Vec<_> = samples.iter().filter_map(|(_, bucket)| bucket.entry).collect();
         assert_eq!(entries, [(1234, Some(2234))]);

@@ -77,7 +77,8 @@ impl Setup {
     /// An address, or the address of a name.
     fn address(&self, option: &str, name: &str) -> Result<u32, String> {
         let found = word(name).ok().or_else(|| self.symbols.address(name));
-        found.ok_or_else(|| format!("--{option}: {name} is no address, and no symbol has this name"))
+        found
+            .ok_or_else(|| format!("--{option}: {name} is no address, and no symbol has this name"))
     }
 }
 

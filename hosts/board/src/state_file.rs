@@ -63,7 +63,9 @@ pub fn range(address: &str, length: &str, memory: usize) -> Result<std::ops::Ran
     let (address, length) = (number(address)?, number(length)?);
     match address.checked_add(length) {
         Some(end) if end <= memory as u64 => Ok(address as usize..end as usize),
-        _ => Err(format!("{length} bytes from {address:#x} on are not in memory of {memory} bytes")),
+        _ => {
+            Err(format!("{length} bytes from {address:#x} on are not in memory of {memory} bytes"))
+        }
     }
 }
 
@@ -98,7 +100,8 @@ fn put(state: &mut State, name: &str, value: &str) -> Result<(), String> {
 
 /// The text of a state and of a memory's marks.
 pub fn written(state: &State, marks: &Marks, memory: usize) -> String {
-    let mut text = String::from("# A state and its memory's marks. Marked contents stand here as they are.\n");
+    let mut text =
+        String::from("# A state and its memory's marks. Marked contents stand here as they are.\n");
     let mut line = |name: &str, value: &dyn std::fmt::Display| {
         writeln!(text, "{name}\t{value}").expect("a string takes all");
     };
@@ -113,7 +116,9 @@ pub fn written(state: &State, marks: &Marks, memory: usize) -> String {
     for (n, _) in state.registers.iter().enumerate().filter(|(_, register)| register.marked) {
         line("mark", &format!("r{n}"));
     }
-    for (name, _) in [("tf", state.tf_marked), ("cy", state.cy_marked)].into_iter().filter(|flag| flag.1) {
+    for (name, _) in
+        [("tf", state.tf_marked), ("cy", state.cy_marked)].into_iter().filter(|flag| flag.1)
+    {
         line("mark", &name);
     }
     for range in marks.ranges(memory) {
@@ -145,7 +150,10 @@ mod tests {
         assert_eq!(error("pc\t0\n\nr16\t1\n"), "line 3: the state has no r16");
         assert_eq!(error("pc\t0\npc\t0\n"), "line 2: pc stands there twice");
         assert_eq!(error("mark\tpc\n"), "line 1: the state has no pc");
-        assert_eq!(error("mark\t8\t9\n"), "line 1: 9 bytes from 0x8 on are not in memory of 16 bytes");
+        assert_eq!(
+            error("mark\t8\t9\n"),
+            "line 1: 9 bytes from 0x8 on are not in memory of 16 bytes"
+        );
         assert_eq!(error("pc 0\n"), "line 1: no name and number, parted by a tab");
         assert_eq!(error("pending\t2\n"), "line 1: pending is 0 or 1");
         assert_eq!(error("r1\tmuch\n"), "line 1: no decimal number, nor a hex one after 0x");

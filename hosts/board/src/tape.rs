@@ -50,9 +50,8 @@ impl Tape {
     /// those that begin with # say nothing; nor has one line to stand before another.
     pub fn read_lines(path: &Path) -> Result<Tape, String> {
         let text = files::read_text(path)?;
-        let spans = files::said_lines(&text).map(|(n, line)| {
-            span(line).map_err(|why| told(path, format!("line {n}: {why}")))
-        });
+        let spans = files::said_lines(&text)
+            .map(|(n, line)| span(line).map_err(|why| told(path, format!("line {n}: {why}"))));
         Ok(Tape { source: Source::Lines(spans.collect::<Result<_, _>>()?), part: Vec::new() })
     }
 
@@ -69,7 +68,10 @@ impl Tape {
         let Some(length) = self.length() else { return Ok(()) };
         if length < budget {
             let path = self.path();
-            return Err(told(&path, format!("{length} bytes, shorter than the budget of {budget}")));
+            return Err(told(
+                &path,
+                format!("{length} bytes, shorter than the budget of {budget}"),
+            ));
         }
         let mut done = 0;
         while done < budget {
@@ -96,7 +98,8 @@ impl Tape {
             Source::Low => self.part.resize(count, 0),
             Source::File(path, file) => {
                 self.part.resize(count, 0);
-                let read = file.seek(SeekFrom::Start(done)).and_then(|_| file.read_exact(&mut self.part));
+                let read =
+                    file.seek(SeekFrom::Start(done)).and_then(|_| file.read_exact(&mut self.part));
                 read.map_err(|error| told(path, error))?;
             }
             Source::Lines(spans) => {

@@ -63,7 +63,11 @@ fn state(report: &Report) -> Vec<String> {
     lines.push(format!("{}  {}", row(vec![TF, CY, place::sfr(0)]), psw_flags(state).join(" ")));
     lines.push(row([1, 2, 3, 4].map(place::sfr).to_vec()));
     lines.push(row([5, 7, 8].map(place::sfr).to_vec()));
-    lines.push(format!("{}  {}", row([9, 10, 6].map(place::sfr).to_vec()), hwdbg_flags(state).join(" ")));
+    lines.push(format!(
+        "{}  {}",
+        row([9, 10, 6].map(place::sfr).to_vec()),
+        hwdbg_flags(state).join(" ")
+    ));
     let pending = if state.pending { "timer pending" } else { "timer not pending" };
     lines.push(named("cycles", format!("{:08x}  {pending}", state.cycles)));
     lines.push(String::new());
@@ -110,7 +114,8 @@ fn check_line(report: &Report, check: &Check) -> String {
         (Ask::Expect(_), _) if !holds => Some(format!("it is {}", report.ended.reply.number())),
         (Ask::Reach(_), None) => Some("it never comes there".into()),
         (Ask::Keep(_), Some(first)) => {
-            let address = first.value.map_or(String::new(), |value| format!(", address {value:08x}"));
+            let address =
+                first.value.map_or(String::new(), |value| format!(", address {value:08x}"));
             Some(format!("{}{address}", event(report, first)))
         }
         (Ask::Floor(_), Some(first)) => {

@@ -34,12 +34,7 @@ pub enum Entry {
 
 /// What the next step would show with these lines; none where it would stop, or the run would be
 /// refused. `marks` has one bit for each byte of memory, the lowest address in the lowest bit.
-pub fn show(
-    state: &State,
-    memory: &[u8],
-    marks: &[u8],
-    lines: u8,
-) -> Result<Option<Line>, Error> {
+pub fn show(state: &State, memory: &[u8], marks: &[u8], lines: u8) -> Result<Option<Line>, Error> {
     let pc = state.pc;
     let entered = |entry| Ok(Some(Line { pc, entry: Some(entry), address: None }));
     if let Some(entry) = interrupt(state, lines) {
@@ -149,4 +144,3 @@ fn access(state: &State, memory: usize, first: u16) -> Line {
     };
     Line { pc: state.pc, entry, address: Some(address) }
 }
-

@@ -18,7 +18,8 @@ pub fn is_elf(bytes: &[u8]) -> bool {
 /// Puts all segments into memory, and gives the names.
 pub fn load(bytes: &[u8], filling: &mut Filling) -> Result<Symbols, String> {
     let header = header(bytes)?;
-    let segments = header.program_headers(END, bytes).map_err(|error| damaged("segments", error))?;
+    let segments =
+        header.program_headers(END, bytes).map_err(|error| damaged("segments", error))?;
     let mut loaded = 0;
     for (n, segment) in segments.iter().enumerate() {
         if segment.p_type(END) == elf::PT_LOAD && segment.p_memsz(END) != 0 {
@@ -69,9 +70,10 @@ fn names(header: &Header, bytes: &[u8]) -> object::Result<Symbols> {
     let symbols = sections.symbols(END, bytes, elf::SHT_SYMTAB)?;
     let mut names = Vec::new();
     for symbol in symbols.iter() {
-        let is_place = matches!(symbol.st_type(), elf::STT_NOTYPE | elf::STT_OBJECT | elf::STT_FUNC)
-            && symbol.st_shndx(END) != elf::SHN_UNDEF
-            && symbol.st_shndx(END) != elf::SHN_ABS;
+        let is_place =
+            matches!(symbol.st_type(), elf::STT_NOTYPE | elf::STT_OBJECT | elf::STT_FUNC)
+                && symbol.st_shndx(END) != elf::SHN_UNDEF
+                && symbol.st_shndx(END) != elf::SHN_ABS;
         let name = String::from_utf8_lossy(symbols.symbol_name(END, symbol)?).into_owned();
         if is_place && !name.is_empty() && !name.contains(char::is_whitespace) {
             names.push((symbol.st_value(END), name));

@@ -57,7 +57,8 @@ impl Record {
         if data.len() != usize::from(length) {
             return Err(format!("truncated: {} data bytes where {length} are told", data.len()));
         }
-        let expected = bytes[..bytes.len() - 1].iter().fold(0u8, |sum, &byte| sum.wrapping_sub(byte));
+        let expected =
+            bytes[..bytes.len() - 1].iter().fold(0u8, |sum, &byte| sum.wrapping_sub(byte));
         if *sum != expected {
             return Err(format!("checksum {sum:02x} where the bytes give {expected:02x}"));
         }
@@ -71,7 +72,10 @@ fn octets(digits: &str) -> Result<Vec<u8>, String> {
     if !digits.len().is_multiple_of(2) || !digits.bytes().all(|digit| digit.is_ascii_hexdigit()) {
         return Err(wrong());
     }
-    (0..digits.len()).step_by(2).map(|at| u8::from_str_radix(&digits[at..at + 2], 16).map_err(|_| wrong())).collect()
+    (0..digits.len())
+        .step_by(2)
+        .map(|at| u8::from_str_radix(&digits[at..at + 2], 16).map_err(|_| wrong()))
+        .collect()
 }
 
 #[cfg(test)]
@@ -86,7 +90,8 @@ mod tests {
 
     #[test]
     fn records() {
-        let memory = loaded(":0200000471106f0a\n:00000001FF\n".replace("0471106f0a", "0071107D").as_str());
+        let memory =
+            loaded(":0200000471106f0a\n:00000001FF\n".replace("0471106f0a", "0071107D").as_str());
         assert_eq!(memory.unwrap()[..4], [0x71, 0x10, 0, 0]);
         // Bases by segment and by upper half, a start address, and Windows' line ends.
         let text = ":020000020000FC\r\n:020000040000FA\r\n:0400000500000000F7\r\n:01000F00AA46\r\n:00000001FF\r\n";
@@ -104,7 +109,10 @@ mod tests {
             (":00000001FF\n:00000001FF\n", "line 2: something stands behind the end record"),
             (":00000006FA\n", "line 1: no record of type 6 has 0 bytes"),
             (":0100100000EF\n", "line 1: 1 bytes from 0x10 on don't fit a memory of 16 bytes"),
-            (":0100000000FF\n:0100000000FF\n", "line 2: overlapping: the byte at 0x0 is there already"),
+            (
+                ":0100000000FF\n:0100000000FF\n",
+                "line 2: overlapping: the byte at 0x0 is there already",
+            ),
         ];
         for (text, why) in cases {
             assert_eq!(loaded(text).unwrap_err(), why);

@@ -84,15 +84,23 @@ fn build_32_passes() {
 
 #[test]
 fn the_leak_is_told_back_to_the_key() {
-    let answer = call(&format!("examples/board/leak.hex {RUN} --expect 10").replace("--symbols examples/board/symbols", ""));
+    let answer = call(
+        &format!("examples/board/leak.hex {RUN} --expect 10")
+            .replace("--symbols examples/board/symbols", ""),
+    );
     assert_eq!(answer.status, Some(1));
     assert_eq!(answer.line("reply"), "reply    14: a marked operand where none may be");
     assert_eq!(answer.line("FAILED"), "FAILED   --expect 10: it is 14");
     let why = answer.out.split("why it ended: ").nth(1).expect("a reason");
     let lines: Vec<&str> = why.lines().skip(1).take(4).map(str::trim).collect();
     assert!(lines[0].ends_with(": sjt 54"), "{why}");
-    assert!(lines[1].starts_with("tf, last written in step ") && lines[1].ends_with(": cmpeqi r8 0"));
-    assert!(lines[2].starts_with("from r8, last written in step ") && lines[2].ends_with(": xor r8 r10"));
+    assert!(
+        lines[1].starts_with("tf, last written in step ") && lines[1].ends_with(": cmpeqi r8 0")
+    );
+    assert!(
+        lines[2].starts_with("from r8, last written in step ")
+            && lines[2].ends_with(": xor r8 r10")
+    );
     assert!(lines[3].ends_with(": ldr r10 0 r7, address 0000ff40 of key"), "{why}");
 }
 
@@ -116,7 +124,8 @@ fn picture(build: &str) -> (i32, i32) {
     assert!(svg.contains("r0, the stack pointer") && svg.contains("reply 10 after 400 steps"));
     let longest = polylines(&svg).into_iter().max_by_key(Vec::len).expect("a line");
     let lowest = longest.iter().map(|point| point.1).max().unwrap();
-    let band = svg.split("<rect").find(|shape| shape.contains("opacity=\"0.2\"")).expect("a band");
+    let mut shapes = svg.split("<rect").filter_map(|shape| shape.split('>').next());
+    let band = shapes.find(|shape| shape.contains("opacity=\"0.2\"")).expect("a band");
     let edge = band.split(" y=\"").nth(1).and_then(|text| text.split('"').next()).unwrap();
     (lowest, edge.parse().unwrap())
 }

@@ -43,7 +43,9 @@ pub fn elf(segments: &[Segment]) -> Vec<u8> {
     let mut file = b"\x7fELF\x01\x02\x01\0\0\0\0\0\0\0\0\0".to_vec();
     file.extend([0, 2, 0, 171, 0, 0, 0, 1, 0, 0, 0, 0]);
     file.extend([HEADER as u32, sections as u32, 0].map(u32::to_be_bytes).concat());
-    file.extend([HEADER as u16, 32, segments.len() as u16, 40, 3, 2].map(u16::to_be_bytes).concat());
+    file.extend(
+        [HEADER as u16, 32, segments.len() as u16, 40, 3, 2].map(u16::to_be_bytes).concat(),
+    );
     file.extend(headers);
     file.extend(data);
     file
@@ -57,9 +59,10 @@ fn whole(bytes: &[u8]) -> Segment<'_> {
 fn raw_hex_and_elf_are_told_by_content() {
     let folder = Folder::new();
     folder.write("raw", firmware());
-    folder.write("hex", ":0600000071102111f4005f\n:00000001ff\n".replace("5f", "59"));
+    folder.write("hex", ":0600000071102111f40053\n:00000001ff\n");
     folder.write("elf", elf(&[whole(&firmware())]));
-    let answers = ["raw", "hex", "elf"].map(|name| folder.call(&format!("{name} --budget 3 --expect 10")));
+    let answers =
+        ["raw", "hex", "elf"].map(|name| folder.call(&format!("{name} --budget 3 --expect 10")));
     for answer in &answers {
         assert_eq!((answer.status, answer.error.as_str()), (Some(0), ""), "{answer:?}");
         assert!(answer.line("r1").starts_with("r1       00000020"));
@@ -90,7 +93,10 @@ fn elf_segments_go_to_their_physical_addresses() {
     folder.write("elf", elf(&[whole(&firmware()), data]));
     assert_eq!(folder.call("elf --size 256 --budget 3 --save-memory memory").status, Some(0));
     let memory = std::fs::read(folder.path("memory")).unwrap();
-    assert_eq!((memory.len(), &memory[..6], &memory[0x40..0x44]), (256, &firmware()[..], &[1, 2, 3, 4][..]));
+    assert_eq!(
+        (memory.len(), &memory[..6], &memory[0x40..0x44]),
+        (256, &firmware()[..], &[1, 2, 3, 4][..])
+    );
 }
 
 #[test]

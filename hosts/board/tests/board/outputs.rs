@@ -22,10 +22,19 @@ fn the_report_for_machines() {
     assert_eq!(report["pc"]["symbol"], "stay");
     assert_eq!(report["registers"][13]["content"], 3);
     // r8 is made from key words.
-    assert_eq!((&report["registers"][8]["content"], &report["registers"][8]["marked"]), (&Value::Null, &Value::from(true)));
+    assert_eq!(
+        (&report["registers"][8]["content"], &report["registers"][8]["marked"]),
+        (&Value::Null, &Value::from(true))
+    );
     let check = &report["checks"][0];
-    assert_eq!((&check["check"], &check["holds"]), (&Value::from("--keep key"), &Value::from(false)));
-    assert_eq!((&check["event"]["step"], &check["event"]["value"]), (&Value::from(131), &Value::from(0xff7c)));
+    assert_eq!(
+        (&check["check"], &check["holds"]),
+        (&Value::from("--keep key"), &Value::from(false))
+    );
+    assert_eq!(
+        (&check["event"]["step"], &check["event"]["value"]),
+        (&Value::from(131), &Value::from(0xff7c))
+    );
     assert_eq!(check["event"]["instruction"], "str r5 12 r0");
     assert_eq!(check["event"]["pc"]["symbol"], "recipe+0x10");
     assert_eq!(report["regions"][0]["marked"], 16);
@@ -72,7 +81,8 @@ fn what_cannot_be_written() {
     folder.write("image", code("stay sj stay"));
     for option in ["--json", "--trace", "--plot", "--save-state"] {
         for place in ["no/file", ".", "/dev/full"] {
-            let answer = folder.call(&format!("image --size 64 --budget 3 {option} {place} --save-memory kept"));
+            let answer = folder
+                .call(&format!("image --size 64 --budget 3 {option} {place} --save-memory kept"));
             assert_eq!((answer.status, answer.out.as_str()), (Some(2), ""), "{option} {place}");
             assert_eq!(folder.names(), ["image"], "{option} {place}");
         }

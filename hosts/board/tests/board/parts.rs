@@ -16,12 +16,20 @@ fn end(answer: &Answer) -> Vec<&str> {
 #[test]
 fn a_run_goes_on_where_one_ended() {
     let folder = Folder::new();
-    let whole = folder.call(&format!("{} --mark 0xff40:64 --budget 400 --save-state all --save-memory memory", image()));
+    let whole = folder.call(&format!(
+        "{} --mark 0xff40:64 --budget 400 --save-state all --save-memory memory",
+        image()
+    ));
     // The first part ends amid the key's stores.
-    folder.call(&format!("{} --mark 0xff40:64 --budget 140 --save-state one --save-memory first", image()));
+    folder.call(&format!(
+        "{} --mark 0xff40:64 --budget 140 --save-state one --save-memory first",
+        image()
+    ));
     let rest = folder.call("first --state one --budget 260 --save-state two --save-memory second");
     assert_eq!((whole.status, rest.status), (Some(0), Some(0)));
-    let same = |one: &str, other: &str| fs::read(folder.path(one)).unwrap() == fs::read(folder.path(other)).unwrap();
+    let same = |one: &str, other: &str| {
+        fs::read(folder.path(one)).unwrap() == fs::read(folder.path(other)).unwrap()
+    };
     assert!(same("all", "two") && same("memory", "second") && !same("memory", "first"));
     assert_eq!(end(&whole)[3..], end(&rest)[3..]);
 }
@@ -84,5 +92,8 @@ fn the_default_budgets() {
     assert_eq!(folder.call("image --size 64").line("steps"), "steps    1000000");
     assert_eq!(folder.call("image --size 64 --tape tape").line("steps"), "steps    77");
     assert_eq!(folder.call("image --size 64 --tape tape --budget 7").line("steps"), "steps    7");
-    assert_eq!(folder.call("image --size 64 --budget 0").line("reply"), "reply    10: budget used up");
+    assert_eq!(
+        folder.call("image --size 64 --budget 0").line("reply"),
+        "reply    10: budget used up"
+    );
 }

@@ -12,7 +12,8 @@ fn written(source: &str, key: [u8; 16], words: &str) -> Vec<Vec<u8>> {
     image.extend(key);
     folder.write("image", image);
     let files = "--json j --trace t --plot p";
-    let answer = folder.call(&format!("image --size 256 --mark key=0x40:16 --budget 60 {files} {words}"));
+    let answer =
+        folder.call(&format!("image --size 256 --mark key=0x40:16 --budget 60 {files} {words}"));
     let mut all = vec![answer.out.into_bytes(), answer.error.into_bytes()];
     all.extend(["j", "t", "p"].map(|name| fs::read(folder.path(name)).unwrap_or_default()));
     assert!(all[2..].iter().all(|file| !file.is_empty()), "{words}");
@@ -39,7 +40,10 @@ fn two_keys_one_answer() {
     let high = [0xff; 16];
     for source in sources {
         for words in ["--keep key --floor 0x30 --why", "--never 0x44 --reach 0x42"] {
-            assert!(written(source, low, words) == written(source, high, words), "{source} {words}");
+            assert!(
+                written(source, low, words) == written(source, high, words),
+                "{source} {words}"
+            );
         }
     }
 }
@@ -52,7 +56,8 @@ fn a_saved_run_holds_the_marked_contents() {
     image.resize(0x20, 0);
     image.extend(*b"KEY!");
     folder.write("image", image);
-    let answer = folder.call("image --size 64 --mark 0x20:4 --budget 3 --save-state s --save-memory m");
+    let answer =
+        folder.call("image --size 64 --mark 0x20:4 --budget 3 --save-state s --save-memory m");
     assert!(!answer.has("4b455921") && !answer.has("KEY"));
     let state = fs::read_to_string(folder.path("s")).unwrap();
     assert!(state.contains("r2\t0x4b455921\n") && state.contains("mark\tr2\n"));

@@ -21,12 +21,16 @@ fn a_marked_base_with_its_origin() {
     assert_eq!(answer.line("reply"), "reply    14: a marked operand where none may be");
     assert_eq!(answer.status, Some(0));
     // r1 was written again, so the way back ends at r2.
-    assert_eq!(why(&answer), ["00000006: ldr r3 0 r2", "r2, last written in step 2, 00000002: mov r2 r1"]);
+    assert_eq!(
+        why(&answer),
+        ["00000006: ldr r3 0 r2", "r2, last written in step 2, 00000002: mov r2 r1"]
+    );
 }
 
 #[test]
 fn a_mark_through_memory() {
-    let answer = run(" ldrpc r1 0x20/ movi r2 0x30/ str r1 0 r2/ ldrb r3 1 r2/ jr r3", "--mark key=0x20:4");
+    let answer =
+        run(" ldrpc r1 0x20/ movi r2 0x30/ str r1 0 r2/ ldrb r3 1 r2/ jr r3", "--mark key=0x20:4");
     assert_eq!(why(&answer), [
         "00000008: jr r3",
         "r3, last written in step 4, 00000006: ldrb r3 1 r2, address 00000031",
@@ -60,13 +64,19 @@ fn a_fetch_from_a_marked_byte() {
     let answer = run(" ldrpc r1 0x20/ movi r2 0x10/ str r1 0 r2/ jr r2", "--mark 0x20:4");
     assert_eq!(answer.line("reply"), "reply    12: instruction fetch from a marked byte");
     assert_eq!(answer.line("pc"), "pc       00000010: ********");
-    assert_eq!(why(&answer)[..2], [
-        "00000010: ********",
-        "the byte at 00000010, last written in step 3, 00000004: str r1 0 r2, address 00000010",
-    ]);
+    assert_eq!(
+        why(&answer)[..2],
+        [
+            "00000010: ********",
+            "the byte at 00000010, last written in step 3, 00000004: str r1 0 r2, address 00000010",
+        ]
+    );
     // The second half of a long jump.
     let answer = run(" j 0x10", "--mark 2:1");
-    assert_eq!(why(&answer), ["00000000: ********", "the byte at 00000002, as it was at the start"]);
+    assert_eq!(
+        why(&answer),
+        ["00000000: ********", "the byte at 00000002, as it was at the start"]
+    );
 }
 
 #[test]
@@ -82,7 +92,8 @@ fn no_instruction() {
 #[test]
 fn the_last_steps() {
     let answer = run(" movi r1 25/loop addi r1 -1/ cmpgti r1 0/ sjt loop/ half 0", "");
-    let steps: Vec<&str> = answer.out.split("the last 20 steps\n").nth(1).unwrap().lines().collect();
+    let steps: Vec<&str> =
+        answer.out.split("the last 20 steps\n").nth(1).unwrap().lines().collect();
     assert_eq!(steps.len(), 21);
     let fields: Vec<&str> = steps[20].split_whitespace().collect();
     assert_eq!(fields, ["76", "0006", "-", "-", "sjt", "2"]);
@@ -93,14 +104,19 @@ fn the_last_steps() {
 #[test]
 fn entries_that_had_not_returned() {
     // A swint whose handler loads outside memory; the bus error's handler is no instruction.
-    let source = " j 0x20/ movi r1 -1/ ldr r2 0 r1/ half 0/ half 0/ half 0/ half 0/ half 0/ half 0/ \
+    let source =
+        " j 0x20/ movi r1 -1/ ldr r2 0 r1/ half 0/ half 0/ half 0/ half 0/ half 0/ half 0/ \
                   half 0/ half 0/ half 0/ half 0/ half 0/ half 0/ swint 5";
-    let answer = run(source, "--size 256");
+    let answer = run(source, "");
     assert_eq!(answer.line("reply"), "reply    13: bits that are no instruction");
     let entries = answer.out.split("the outermost first\n").nth(1).unwrap_or_default();
-    assert_eq!(entries, "  step 2, from 00000020: swint 5\n  step 4, from 00000006: bus error, data\n");
+    assert_eq!(
+        entries,
+        "  step 2, from 00000020: swint 5\n  step 4, from 00000006: bus error, data\n"
+    );
     // An entry that returned is gone.
-    let source = " j 0x20/ jsfr sfr2/ half 0/ half 0/ half 0/ half 0/ half 0/ half 0/ half 0/ half 0/ \
+    let source =
+        " j 0x20/ jsfr sfr2/ half 0/ half 0/ half 0/ half 0/ half 0/ half 0/ half 0/ half 0/ \
                   half 0/ half 0/ half 0/ half 0/ half 0/ swint 5/ half 0";
     assert!(!run(source, "").has("had not returned"));
 }

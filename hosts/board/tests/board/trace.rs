@@ -17,7 +17,13 @@ fn line((number, step): (usize, &Step)) -> String {
         Some(Entry::External(_)) => 'e',
         Some(Entry::BusError(_)) => 'b',
     };
-    let digits = |address: u32| if address > 0xffff { format!("{address:08x}") } else { format!("{address:04x}") };
+    let digits = |address: u32| {
+        if address > 0xffff {
+            format!("{address:08x}")
+        } else {
+            format!("{address:04x}")
+        }
+    };
     let address = step.address.map_or("-".into(), digits);
     format!("{}\t{}\t{entry}\t{address}\n", number + 1, digits(step.pc))
 }
@@ -43,18 +49,29 @@ fn fields(trace: &str) -> String {
 
 #[test]
 fn as_the_second_program_says() {
-    let marked = [("build31", 0xd0..0xe0), ("build32", 0xd0..0xe0), ("leak", 0xd0..0xe0), ("shifts_secret", 0x28..0x38)];
+    let marked = [
+        ("build31", 0xd0..0xe0),
+        ("build32", 0xd0..0xe0),
+        ("leak", 0xd0..0xe0),
+        ("shifts_secret", 0x28..0x38),
+    ];
     let plain = ["nested", "nested_lost", "nested_saved", "buserror", "buserror_lost"];
     let cases = marked.into_iter().chain(plain.map(|name| (name, 0..0)));
     for (name, marks) in cases {
         let folder = Folder::new();
-        let image = fs::read(repository().join(format!("examples/{name}.image"))).expect("an image");
+        let image =
+            fs::read(repository().join(format!("examples/{name}.image"))).expect("an image");
         // Line 3 is high now and then, though few of them permit it.
         let tape: Vec<u8> = (0..200).map(|step| if step % 7 == 0 { 8 } else { 0 }).collect();
         folder.write("image", &image);
         folder.write("tape", &tape);
-        let mark = if marks.is_empty() { String::new() } else { format!("--mark {}:{}", marks.start, marks.len()) };
-        let answer = folder.call(&format!("image --size {} --tape tape --trace - {mark}", image.len()));
+        let mark = if marks.is_empty() {
+            String::new()
+        } else {
+            format!("--mark {}:{}", marks.start, marks.len())
+        };
+        let answer =
+            folder.call(&format!("image --size {} --tape tape --trace - {mark}", image.len()));
         assert_eq!((answer.status, answer.error.as_str()), (Some(0), ""), "{name}");
         assert_eq!(fields(&answer.out), expected(&image, marks, &tape), "{name}");
     }
@@ -65,7 +82,7 @@ const ENTRIES: &str = concat!(
     " j begin/ jsfr sfr2/ half 0/ addi r12 1/ jsfr sfr2/ addi r13 1/ jsfr sfr2/ addi r14 1/ jsfr sfr2/",
     "begin movi r1 0x50/ mtsfr sfr9 r1/ mtsfr sfr7 r1/ movi r2 9/ mtsfr sfr3 r2/ ldrpc r3 permit/",
     " mtsfr sfr0 r3/ movi r4 0x1c/ mtsfr sfr6 r4/ ldrb r5 0 r1/ swint 3/ movi r6 -1/ ldr r5 0 r6/",
-    " jr r1/ half 0/permit word 0x800030"
+    " jr r1/permit word 0x800030"
 );
 
 #[test]
@@ -97,7 +114,11 @@ fn from_and_to() {
     folder.write("image", code("loop addi r1 1/ sj loop"));
     let numbers = |words: &str| {
         let answer = folder.call(&format!("image --size 64 --budget 50 --trace - {words}"));
-        answer.out.lines().map(|line| line.split('\t').next().unwrap().parse().unwrap()).collect::<Vec<u64>>()
+        answer
+            .out
+            .lines()
+            .map(|line| line.split('\t').next().unwrap().parse().unwrap())
+            .collect::<Vec<u64>>()
     };
     assert_eq!(numbers("--from 3 --to 5"), [3, 4, 5]);
     assert_eq!(numbers("--to 2"), [1, 2]);
