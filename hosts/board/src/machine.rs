@@ -26,13 +26,18 @@ impl Machine {
 
 /// INTERIM: the marks as a byte each.
 fn as_bytes(marks: &Marks, length: usize) -> Vec<u8> {
-    let all = marks.bits().iter().flat_map(|&byte| (0..8).map(move |bit| byte >> bit & 1));
-    all.take(length).collect()
+    let mut bytes = vec![0; length];
+    let some = marks.bits().iter().zip(bytes.chunks_mut(8)).filter(|(&bits, _)| bits != 0);
+    for (bits, bytes) in some {
+        bytes.iter_mut().enumerate().for_each(|(bit, mark)| *mark = bits >> bit & 1);
+    }
+    bytes
 }
 
 /// INTERIM: takes the marks back.
 fn from_bytes(marks: &mut Marks, bytes: &[u8]) {
     for (bits, bytes) in marks.bits_mut().iter_mut().zip(bytes.chunks(8)) {
-        *bits = bytes.iter().enumerate().fold(0, |bits, (bit, &mark)| bits | mark << bit);
+        let packed = |(bits, bit): (u8, u32), &mark: &u8| (bits | mark << bit, bit + 1);
+        *bits = if bytes == [0; 8] { 0 } else { bytes.iter().fold((0, 0), packed).0 };
     }
 }
