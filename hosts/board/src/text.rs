@@ -69,8 +69,10 @@ fn state(report: &Report) -> Vec<String> {
         hwdbg_flags(state).join(" ")
     ));
     let pending = if state.pending { "timer pending" } else { "timer not pending" };
-    lines.push(named("cycles", format!("{:08x}  {pending}", state.cycles)));
-    lines.push(String::new());
+    lines.push(format!("cycle count {:08x}, {pending}", state.cycles));
+    if !report.checks.regions.is_empty() || !report.checks.checks.is_empty() {
+        lines.push(String::new());
+    }
     lines
 }
 
