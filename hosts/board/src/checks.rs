@@ -6,6 +6,7 @@ use manik::Reply;
 
 use crate::instruction::Instruction;
 use crate::machine::Machine;
+use crate::place;
 use crate::regions::{Reached, Region};
 use crate::watch::Step;
 
@@ -33,6 +34,8 @@ pub struct Check {
 #[derive(Clone)]
 pub struct Event {
     pub step: u64,
+    /// Whether it is what the step left, not the step itself: the start, after step 0, or the end.
+    pub is_after: bool,
     /// The program counter before the step.
     pub pc: u32,
     pub instruction: Option<Rc<Instruction>>,
@@ -43,15 +46,21 @@ pub struct Event {
 pub struct Checks {
     pub checks: Vec<Check>,
     pub regions: Vec<Region>,
-    /// Whether r0 was set: before that, it is no stack pointer.
-    is_set: bool,
 }
 
 impl Checks {
     pub fn new(asked: Vec<(String, Ask)>, regions: Vec<Region>, start: &Machine) -> Checks {
-        let checks = asked.into_iter().map(|(option, ask)| Check { option, ask, event: None });
         let is_set = is_set(start);
-        Checks { checks: checks.collect(), regions, is_set }
+        let checks = asked.into_iter().map(|(option, ask)| {
+            let event = match ask {
+                Ask::Floor(floor) if is_set => {
+                    below(start, floor).map(|value| left(0, start, value))
+                }
+                _ => None,
+            };
+            Check { option, ask, event }
+        });
+        Checks { checks: checks.collect(), regions }
     }
 
     /// Whether every step has to be seen.
@@ -65,12 +74,13 @@ impl Checks {
         for region in &mut self.regions {
             region.step(step);
         }
-        self.is_set |= step.written.has(0);
         let mut failed = false;
         for check in self.checks.iter_mut().filter(|check| check.event.is_none()) {
             let event = match check.ask {
                 Ask::Keep(n) => self.regions[n].stored.as_ref().map(Event::from),
-                Ask::Floor(floor) if self.is_set && step.written.has(0) => below(step, floor),
+                Ask::Floor(floor) if step.written.has(0) => {
+                    below(step.machine, floor).map(|value| event(step, value))
+                }
                 Ask::Reach(address) | Ask::Never(address) => at(step, address),
                 _ => None,
             };
@@ -81,16 +91,17 @@ impl Checks {
     }
 
     /// The end of the run: the program counter that it came to counts too.
-    pub fn end(&mut self, steps: u64, pc: u32) {
+    pub fn end(&mut self, steps: u64, end: &Machine) {
+        let pc = end.state.pc;
         for check in self.checks.iter_mut().filter(|check| check.event.is_none()) {
             if matches!(check.ask, Ask::Reach(address) | Ask::Never(address) if address == pc) {
-                check.event = Some(Event { step: steps, pc, instruction: None, value: None });
+                check.event = Some(left(steps, end, None));
             }
         }
     }
 }
 
-/// A machine whose r0 is a stack pointer already.
+/// A machine whose r0 is a stack pointer already. Before it is set, it is none.
 pub fn is_set(machine: &Machine) -> bool {
     let r0 = machine.state.registers[0];
     r0.marked || r0.value != 0
@@ -110,19 +121,25 @@ impl From<&Reached> for Event {
     fn from(reached: &Reached) -> Event {
         let instruction = Rc::clone(&reached.instruction);
         let (step, pc) = (reached.step, instruction.address);
-        Event { step, pc, instruction: Some(instruction), value: Some(reached.address) }
+        let value = Some(reached.address);
+        Event { step, is_after: false, pc, instruction: Some(instruction), value }
     }
 }
 
 fn event(step: &Step, value: Option<u32>) -> Event {
-    Event { step: step.number, pc: step.line.pc, instruction: step.instruction.cloned(), value }
+    let instruction = step.instruction.cloned();
+    Event { step: step.number, is_after: false, pc: step.line.pc, instruction, value }
 }
 
-/// A step that leaves r0 below the floor, or marked, which nobody may compare.
-fn below(step: &Step, floor: u32) -> Option<Event> {
-    let r0 = step.machine.state.registers[0];
-    let value = (!r0.marked).then_some(r0.value);
-    value.is_none_or(|value| value < floor).then(|| event(step, value))
+/// What so many steps left.
+fn left(step: u64, machine: &Machine, value: Option<u32>) -> Event {
+    Event { step, is_after: true, pc: machine.state.pc, instruction: None, value }
+}
+
+/// r0 if it is below the floor, or if it is marked, which nobody may compare; its value is then none.
+fn below(machine: &Machine, floor: u32) -> Option<Option<u32>> {
+    let value = place::content(&machine.state, 0);
+    value.is_none_or(|value| value < floor).then_some(value)
 }
 
 fn at(step: &Step, address: u32) -> Option<Event> {

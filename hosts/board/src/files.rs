@@ -2,8 +2,9 @@
 //! failure on the way leaves everything as it was.
 
 use std::ffi::OsString;
-use std::fs::{self, File, OpenOptions};
+use std::fs::{self, File, OpenOptions, Permissions};
 use std::io::{self, BufWriter, ErrorKind, Read, Write};
+use std::os::unix::fs::OpenOptionsExt;
 use std::path::{Path, PathBuf};
 
 /// A path and what is wrong with it.
@@ -38,6 +39,9 @@ pub fn said_lines(text: &str) -> impl Iterator<Item = (usize, &str)> {
 }
 
 /// A file that is being written aside. Dropped, it leaves nothing behind.
+///
+/// It has the rights of the file that it replaces; a new one is for its owner alone if it holds
+/// marked contents.
 pub struct Aside {
     path: PathBuf,
     aside: PathBuf,
@@ -45,17 +49,27 @@ pub struct Aside {
 }
 
 impl Aside {
-    pub fn create(path: &Path) -> Result<Aside, String> {
-        let place = replaced(path).map_err(|error| told(path, error))?;
-        let aside = beside(&place).ok_or_else(|| told(path, "it names no file"))?;
-        let file = OpenOptions::new().write(true).create_new(true).open(&aside);
-        let file = BufWriter::new(file.map_err(|error| told(path, error))?);
-        Ok(Aside { path: place, aside, file })
+    pub fn create(path: &Path, is_secret: bool) -> Result<Aside, String> {
+        let replaced = replaced(path).map_err(|error| told(path, error))?;
+        let (path, permissions) = match replaced {
+            Some((place, permissions)) => (place, Some(permissions)),
+            None => (path.to_path_buf(), None),
+        };
+        let aside = beside(&path).ok_or_else(|| told(&path, "it names no file"))?;
+        let mode = if is_secret { 0o600 } else { 0o666 };
+        let file = OpenOptions::new().write(true).create_new(true).mode(mode).open(&aside);
+        let file = file.map_err(|error| told(&path, error))?;
+        let aside = Aside { path, aside, file: BufWriter::new(file) };
+        if let Some(permissions) = permissions {
+            let set = aside.file.get_ref().set_permissions(permissions);
+            set.map_err(|error| told(&aside.path, error))?;
+        }
+        Ok(aside)
     }
 
     /// A file that holds these bytes already.
-    pub fn filled(path: &Path, bytes: &[u8]) -> Result<Aside, String> {
-        let mut aside = Aside::create(path)?;
+    pub fn filled(path: &Path, bytes: &[u8], is_secret: bool) -> Result<Aside, String> {
+        let mut aside = Aside::create(path, is_secret)?;
         aside.write_all(bytes).map_err(|error| told(path, error))?;
         Ok(aside)
     }
@@ -88,14 +102,20 @@ impl Drop for Aside {
     }
 }
 
-/// The file itself that is replaced, not a link to it. A device would be replaced by a file.
-fn replaced(path: &Path) -> io::Result<PathBuf> {
-    match fs::metadata(path) {
-        Ok(metadata) if !metadata.is_file() => Err(io::Error::other("it is no plain file")),
-        Ok(_) => path.canonicalize(),
-        Err(error) if error.kind() == ErrorKind::NotFound => Ok(path.to_path_buf()),
-        Err(error) => Err(error),
+/// The file itself that is replaced, not a link to it, and its rights. A device would be replaced by
+/// a file.
+fn replaced(path: &Path) -> io::Result<Option<(PathBuf, Permissions)>> {
+    let metadata = match fs::metadata(path) {
+        Ok(metadata) => metadata,
+        Err(error) if error.kind() == ErrorKind::NotFound => return Ok(None),
+        Err(error) => return Err(error),
+    };
+    if !metadata.is_file() {
+        return Err(io::Error::other("it is no plain file"));
     }
+    // Putting another file in its place asks for no right to write this one.
+    OpenOptions::new().write(true).open(path)?;
+    Ok(Some((path.canonicalize()?, metadata.permissions())))
 }
 
 /// A name beside the file that no other call has at the same time.

@@ -16,13 +16,35 @@ const LAST: usize = 20;
 /// How many entries are remembered; of more, the inner ones.
 const NESTED: usize = 16;
 
-/// A step that was made, and the contents of what it wrote, none where they are marked.
+/// A step that was made.
 #[derive(Clone)]
 pub struct Past {
     pub number: u64,
     pub line: Line,
     pub instruction: Option<Rc<Instruction>>,
-    pub written: Vec<(u8, Option<u32>)>,
+    pub written: Written,
+}
+
+/// The contents of what a step wrote, none where they are marked. An instruction writes no more than PSW with TF and CY.
+#[derive(Clone, Copy, Default)]
+pub struct Written {
+    count: usize,
+    contents: [(u8, Option<u32>); 3],
+}
+
+impl Written {
+    fn of(step: &Step) -> Written {
+        let mut written = Written::default();
+        for (place, content) in step.written.iter().zip(&mut written.contents) {
+            *content = (place, place::content(&step.machine.state, place));
+            written.count += 1;
+        }
+        written
+    }
+
+    pub fn contents(&self) -> &[(u8, Option<u32>)] {
+        &self.contents[..self.count]
+    }
 }
 
 /// An entry that has not returned.
@@ -83,16 +105,15 @@ impl History {
     }
 
     fn remember(&mut self, step: &Step) {
-        // The room of the step that is forgotten is used again.
-        let mut written = match self.last.len() {
-            LAST => self.last.pop_front().map_or(Vec::new(), |past| past.written),
-            _ => Vec::new(),
-        };
-        written.clear();
-        let state = &step.machine.state;
-        written.extend(step.written.iter().map(|place| (place, place::content(state, place))));
-        let instruction = step.instruction.cloned();
-        self.last.push_back(Past { number: step.number, line: step.line, instruction, written });
+        if self.last.len() == LAST {
+            self.last.pop_front();
+        }
+        self.last.push_back(Past {
+            number: step.number,
+            line: step.line,
+            instruction: step.instruction.cloned(),
+            written: Written::of(step),
+        });
     }
 
     fn enter(&mut self, step: &Step) {

@@ -2,7 +2,7 @@
 
 use serde_json::{json, Value};
 
-use crate::checks::{Check, Event};
+use crate::checks::{Ask, Check, Event};
 use crate::history::{Moment, Nested, Origin, Past};
 use crate::place::{self, CY, TF};
 use crate::regions::{Reached, Region};
@@ -47,7 +47,7 @@ fn each<T>(all: &[T], value: impl Fn(&T) -> Value) -> Vec<Value> {
 
 /// An address with its name.
 fn place(report: &Report, address: u32) -> Value {
-    json!({ "address": address, "symbol": report.symbols.place(address) })
+    json!({ "address": address, "symbol": report.symbol(address) })
 }
 
 fn content(place: u8, content: Option<u32>) -> Value {
@@ -59,13 +59,20 @@ fn contents(report: &Report, places: std::ops::Range<u8>) -> Vec<Value> {
     places.map(|place| content(place, place::content(state, place))).collect()
 }
 
-fn event(report: &Report, event: &Event) -> Value {
+/// A step with its place, and a value by its name.
+fn event(report: &Report, event: &Event, name: &str, value: Option<u32>) -> Value {
     let instruction = event.instruction.as_ref().map(|instruction| instruction.words());
-    json!({ "step": event.step, "pc": place(report, event.pc), "instruction": instruction, "value": event.value })
+    json!({
+        "step": event.step,
+        "after": event.is_after,
+        "pc": place(report, event.pc),
+        "instruction": instruction,
+        name: value,
+    })
 }
 
 fn reached(report: &Report, reached: &Reached) -> Value {
-    event(report, &Event::from(reached))
+    event(report, &Event::from(reached), "address", Some(reached.address))
 }
 
 fn region_value(report: &Report, region: &Region) -> Value {
@@ -80,10 +87,11 @@ fn region_value(report: &Report, region: &Region) -> Value {
 }
 
 fn check_value(report: &Report, check: &Check) -> Value {
+    let name = if matches!(check.ask, Ask::Floor(_)) { "r0" } else { "address" };
     json!({
         "check": check.option,
         "holds": check.holds(report.ended.reply),
-        "event": check.event.as_ref().map(|first| event(report, first)),
+        "event": check.event.as_ref().map(|first| event(report, first, name, first.value)),
     })
 }
 
@@ -125,7 +133,7 @@ fn past_value(report: &Report, past: &Past) -> Value {
         "entry": past.line.entry.map(entry_words),
         "address": past.line.address,
         "instruction": past.instruction.as_ref().map(|instruction| instruction.words()),
-        "writes": each(&past.written, |&(place, value)| content(place, value)),
+        "writes": each(past.written.contents(), |&(place, value)| content(place, value)),
     })
 }
 

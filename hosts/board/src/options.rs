@@ -177,9 +177,12 @@ fn check(options: &Options) -> Result<(), String> {
     check_outputs(options)
 }
 
-/// No two outputs are one.
+/// No two outputs are one, and only two may be standard output.
 fn check_outputs(options: &Options) -> Result<(), String> {
     let Options { json, trace, plot, save_state, save_memory, .. } = options;
+    if [plot, save_state, save_memory].into_iter().flatten().any(|path| path == Path::new("-")) {
+        return Err("only --json and --trace can go to standard output".into());
+    }
     let outputs: Vec<&Path> = [json, trace, plot, save_state, save_memory]
         .into_iter()
         .flatten()
@@ -212,6 +215,8 @@ mod tests {
             ("a --keep k", "--keep: no --mark names k"),
             ("a --expect 11", ": a run ends with 10, 12, 13 or 14"),
             ("a --json x --plot x", "x: two outputs go there"),
+            ("a --json - --trace -", "-: two outputs go there"),
+            ("a --plot -", "only --json and --trace can go to standard output"),
             ("a --trace x --from 3 --to 2", "--from 3 is above --to 2"),
         ];
         for (words, why) in cases {

@@ -1,7 +1,7 @@
 //! All that a call writes. Every file is written aside before one is put in its place, so that a
 //! call that fails writes none.
 
-use std::path::Path;
+use std::path::{Path, PathBuf};
 
 use crate::files::{self, Aside};
 use crate::machine::Machine;
@@ -36,22 +36,23 @@ impl Outputs<'_> {
         let state = || state_file::written(state, marks, memory.len()).into_bytes();
         let bytes = |text: &Option<String>| text.clone().unwrap_or_default().into_bytes();
         let mut files = Vec::new();
-        let mut add = |path: &Option<_>, bytes: &dyn Fn() -> Vec<u8>| -> Result<(), String> {
-            if let Some(path) = path.as_deref().filter(|path| !is_standard(path)) {
-                files.push(Aside::filled(path, &bytes())?);
-            }
-            Ok(())
+        let mut add = |path: &Option<PathBuf>, bytes: &dyn Fn() -> Vec<u8>, is_secret| match path
+            .as_deref()
+            .filter(|path| !is_standard(path))
+        {
+            Some(path) => Aside::filled(path, &bytes(), is_secret).map(|file| files.push(file)),
+            None => Ok(()),
         };
-        add(&options.json, &|| bytes(&self.machines))?;
-        add(&options.plot, &|| bytes(&self.picture))?;
-        add(&options.save_state, &state)?;
-        add(&options.save_memory, &|| memory.clone())?;
+        add(&options.json, &|| bytes(&self.machines), false)?;
+        add(&options.plot, &|| bytes(&self.picture), false)?;
+        add(&options.save_state, &state, true)?;
+        add(&options.save_memory, &|| memory.clone(), true)?;
         Ok(files)
     }
 
     /// The words, unless something else goes to standard output.
     fn print(&self, options: &Options) -> Result<(), String> {
-        let goes_out = |path: &Option<std::path::PathBuf>| path.as_deref().is_some_and(is_standard);
+        let goes_out = |path: &Option<PathBuf>| path.as_deref().is_some_and(is_standard);
         match &self.machines {
             Some(machines) if goes_out(&options.json) => files::print(machines),
             _ if goes_out(&options.trace) => Ok(()),

@@ -175,7 +175,7 @@ fn ticks(addresses: &Range<i64>) -> Vec<i64> {
     let length = (addresses.end - addresses.start) as u64;
     // A power of two that parts the range into four to eight.
     let distance = ((length / 4).max(1).next_power_of_two() / 2).max(1) as i64;
-    let first = addresses.start.div_euclid(distance) + 1;
+    let first = (addresses.start.div_euclid(distance) + 1).max(0);
     (first..).map(|n| n * distance).take_while(|&address| address < addresses.end).collect()
 }
 

@@ -41,9 +41,15 @@ impl Report<'_> {
         self.ended.cycles as f64 / CYCLES_A_SECOND
     }
 
+    /// The name of an address in memory.
+    pub fn symbol(&self, address: u32) -> Option<String> {
+        let is_inside = (address as usize) < self.machine.memory.len();
+        self.symbols.place(address).filter(|_| is_inside)
+    }
+
     /// An address with its name, if it has one.
     pub fn place(&self, address: u32) -> String {
-        match self.symbols.place(address) {
+        match self.symbol(address) {
             Some(name) => format!("{address:08x} {name}"),
             None => format!("{address:08x}"),
         }

@@ -32,7 +32,7 @@ pub fn run(options: &Options) -> Result<bool, String> {
     let window = window(options, &watchers);
     let Setup { machine, tape, budget, .. } = &mut setup;
     let ended = session::run(machine, tape, *budget, &window, &mut watchers)?;
-    watchers.checks.end(ended.steps, setup.machine.state.pc);
+    watchers.checks.end(ended.steps, &setup.machine);
     let is_asked =
         options.why || ended.reply != Reply::BudgetUsed || fails_at_its_end(&watchers, ended);
     if is_asked && window != ALL {

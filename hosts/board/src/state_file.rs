@@ -40,7 +40,10 @@ pub fn read(text: &str, marks: &mut Marks, memory: usize) -> Result<State, Strin
             ["mark", address, length] => {
                 marks.set(range(address, length, memory).map_err(at)?);
             }
-            ["mark", place] => *mark(&mut state, place).ok_or(at(unknown(place)))? = true,
+            ["mark", place] => {
+                let mark = mark(&mut state, place);
+                *mark.ok_or_else(|| at(format!("{place} is nothing that can be marked")))? = true;
+            }
             [name, value] => {
                 if given.contains(&name) {
                     return Err(at(format!("{name} stands there twice")));
@@ -149,7 +152,7 @@ mod tests {
         let error = |text| read(text, &mut Marks::none(16), 16).unwrap_err();
         assert_eq!(error("pc\t0\n\nr16\t1\n"), "line 3: the state has no r16");
         assert_eq!(error("pc\t0\npc\t0\n"), "line 2: pc stands there twice");
-        assert_eq!(error("mark\tpc\n"), "line 1: the state has no pc");
+        assert_eq!(error("mark\tpc\n"), "line 1: pc is nothing that can be marked");
         assert_eq!(
             error("mark\t8\t9\n"),
             "line 1: 9 bytes from 0x8 on are not in memory of 16 bytes"

@@ -78,10 +78,11 @@ fn state(report: &Report) -> Vec<String> {
 
 /// A step with its place and instruction.
 fn event(report: &Report, event: &Event) -> String {
-    let place = report.place(event.pc);
+    let after = if event.is_after { "after " } else { "" };
+    let step = format!("{after}step {}, {}", event.step, report.place(event.pc));
     match &event.instruction {
-        Some(instruction) => format!("step {}, {place}: {}", event.step, instruction.words()),
-        None => format!("step {}, {place}", event.step),
+        Some(instruction) => format!("{step}: {}", instruction.words()),
+        None => step,
     }
 }
 
@@ -203,7 +204,7 @@ fn columns([step, pc, entry, address, instruction]: [String; 5], writes: &str) -
 
 fn past_line(past: &Past) -> String {
     let line = past.line;
-    let written = past.written.iter().map(|&(place, content)| {
+    let written = past.written.contents().iter().map(|&(place, content)| {
         format!("{}={}", place::name(place), place::shown(place, content))
     });
     let instruction = past.instruction.as_ref().map_or("-".into(), |found| found.words());

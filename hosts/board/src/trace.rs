@@ -28,7 +28,7 @@ impl Trace {
         let output = if path == Path::new("-") {
             Output::Standard(io::BufWriter::new(io::stdout()))
         } else {
-            Output::File(path.into(), Aside::create(path)?)
+            Output::File(path.into(), Aside::create(path, false)?)
         };
         Ok(Trace { steps, output, is_closed: false })
     }

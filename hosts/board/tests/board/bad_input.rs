@@ -76,32 +76,23 @@ fn hex() {
     );
 }
 
+/// Eight bytes at an address, and so much room in memory.
+fn at(address: u32, memory: u32) -> Segment<'static> {
+    Segment { physical: address, virtual_: address, bytes: &[0; 8], memory }
+}
+
 #[test]
-fn elf_files() {
+fn elf_of_another_kind() {
     let folder = folder();
-    let at = |address: u32, memory: u32| Segment {
-        physical: address,
-        virtual_: address,
-        bytes: &[0; 8],
-        memory,
-    };
-    let good = elf(&[at(0, 8)]);
     let changed = |place: usize, byte: u8| {
-        let mut bytes = good.clone();
+        let mut bytes = elf(&[at(0, 8)]);
         bytes[place] = byte;
         bytes
     };
-    folder.write("header", &good[..40]);
-    folder.write("segments", &good[..60]);
-    folder.write("data", &good[..88]);
-    folder.write("symbols", &good[..100]);
     folder.write("little", changed(5, 1));
     folder.write("wide", changed(4, 2));
     folder.write("object", changed(17, 1));
     folder.write("nothing", elf(&[]));
-    folder.write("twice", elf(&[at(0, 8), at(4, 8)]));
-    folder.write("outside", elf(&[at(0xfffc, 8)]));
-    folder.write("grown", elf(&[at(0xfff0, 32)]));
     expect(
         &folder,
         &[
@@ -109,22 +100,39 @@ fn elf_files() {
             ("wide", "wide: ELF of 64 bits, where 32 are needed"),
             ("object", "object: ELF that is not linked to fixed addresses"),
             ("nothing", "nothing: ELF without a segment to load"),
-            ("data", "data: segment 0: truncated: the file ends before it does"),
-            ("twice", "twice: segment 1: overlapping: the byte at 0x4 is there already"),
-            (
-                "outside",
-                "outside: segment 0: 8 bytes from 0xfffc on don't fit a memory of 65536 bytes",
-            ),
-            (
-                "grown",
-                "grown: segment 0: 32 bytes from 0xfff0 on don't fit a memory of 65536 bytes",
-            ),
         ],
     );
-    for name in ["header", "segments", "symbols"] {
+}
+
+#[test]
+fn elf_that_does_not_fit() {
+    let folder = folder();
+    folder.write("twice", elf(&[at(0, 8), at(4, 8)]));
+    folder.write("outside", elf(&[at(0xfffc, 8)]));
+    folder.write("grown", elf(&[at(0xfff0, 32)]));
+    let length = "bytes from 0xfff0 on don't fit a memory of 65536 bytes";
+    expect(
+        &folder,
+        &[
+            ("twice", "twice: segment 1: overlapping: the byte at 0x4 is there already"),
+            ("outside", &format!("outside: segment 0: 8 {}", length.replace("fff0", "fffc"))),
+            ("grown", &format!("grown: segment 0: 32 {length}")),
+        ],
+    );
+}
+
+#[test]
+fn elf_that_is_cut() {
+    let folder = folder();
+    let good = elf(&[at(0, 8)]);
+    for (name, length) in [("header", 40), ("segments", 60), ("symbols", 100)] {
+        folder.write(name, &good[..length]);
         let line = said(&folder, name);
         assert!(line.starts_with(&format!("{name}: truncated or damaged ELF: ")), "{line}");
     }
+    folder.write("data", &good[..88]);
+    let why = "data: segment 0: truncated: the file ends before it does";
+    expect(&folder, &[("data", why)]);
 }
 
 #[test]

@@ -86,6 +86,22 @@ fn floor() {
 }
 
 #[test]
+fn a_floor_above_the_start() {
+    let folder = Folder::new();
+    folder.write("image", code("stay sj stay"));
+    folder.write("state", "r0\t0x20\n");
+    let answer = folder.call("image --size 64 --state state --floor 0x24 --budget 3");
+    assert_eq!(
+        answer.line("FAILED"),
+        "FAILED   --floor 0x24: after step 0, 00000000, r0 is 00000020"
+    );
+    assert_eq!(
+        folder.call("image --size 64 --state state --floor 0x20 --budget 3").status,
+        Some(0)
+    );
+}
+
+#[test]
 fn reach_and_never() {
     let folder = folder();
     let reached = "--reach stay: step 10, 00000024 stay: sj 36";
@@ -105,8 +121,8 @@ fn reach_and_never() {
     );
     // The program counter at the end counts too.
     let answer = folder.call("image --size 256 --budget 1 --never 0x14 --reach 0x14");
-    assert_eq!(answer.line("FAILED"), "FAILED   --never 0x14: step 1, 00000014");
-    assert_eq!(answer.line("holds"), "holds    --reach 0x14: step 1, 00000014");
+    assert_eq!(answer.line("FAILED"), "FAILED   --never 0x14: after step 1, 00000014");
+    assert_eq!(answer.line("holds"), "holds    --reach 0x14: after step 1, 00000014");
 }
 
 #[test]

@@ -32,7 +32,7 @@ fn the_report_for_machines() {
         (&Value::from("--keep key"), &Value::from(false))
     );
     assert_eq!(
-        (&check["event"]["step"], &check["event"]["value"]),
+        (&check["event"]["step"], &check["event"]["address"]),
         (&Value::from(131), &Value::from(0xff7c))
     );
     assert_eq!(check["event"]["instruction"], "str r5 12 r0");
@@ -98,4 +98,18 @@ fn a_link_stays_one() {
     assert_eq!(folder.call("image --size 64 --budget 3 --save-memory link").status, Some(0));
     assert!(folder.path("link").is_symlink());
     assert_eq!(fs::read(folder.path("file")).unwrap().len(), 64);
+}
+
+#[test]
+fn rights_of_files() {
+    use std::os::unix::fs::PermissionsExt;
+    let folder = Folder::new();
+    folder.write("image", code("stay sj stay"));
+    folder.write("old", "");
+    fs::set_permissions(folder.path("old"), fs::Permissions::from_mode(0o640)).unwrap();
+    let files = "--save-state s --save-memory m --json old";
+    assert_eq!(folder.call(&format!("image --size 64 --budget 3 {files}")).status, Some(0));
+    let mode = |name: &str| fs::metadata(folder.path(name)).unwrap().permissions().mode() & 0o777;
+    // What holds marked contents is for its owner alone; a file that was there keeps its rights.
+    assert_eq!(["s", "m", "old"].map(mode), [0o600, 0o600, 0o640]);
 }
