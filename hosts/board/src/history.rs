@@ -4,17 +4,15 @@
 use std::collections::VecDeque;
 use std::rc::Rc;
 
-use manik::{Entry, Line};
+use manik::Line;
 
+use crate::entries::{Entries, Nested};
 use crate::instruction::Instruction;
 use crate::place::{self, Places};
 use crate::watch::Step;
 
 /// How many steps are remembered.
 const LAST: usize = 20;
-
-/// How many entries are remembered; of more, the inner ones.
-const NESTED: usize = 16;
 
 /// A step that was made.
 #[derive(Clone)]
@@ -47,15 +45,6 @@ impl Written {
     }
 }
 
-/// An entry that has not returned.
-#[derive(Clone, Copy)]
-pub struct Nested {
-    pub step: u64,
-    /// The program counter from which it was entered.
-    pub from: u32,
-    pub entry: Entry,
-}
-
 /// The last instruction that wrote something.
 #[derive(Clone)]
 pub struct Origin {
@@ -71,16 +60,12 @@ pub struct Origin {
 #[derive(Clone, Default)]
 pub struct Moment {
     pub steps: Vec<Past>,
-    /// From the outermost on.
-    pub nested: Vec<Nested>,
-    /// Entries around these that were too many to remember.
-    pub around: u64,
+    pub entries: Entries,
 }
 
 pub struct History {
     last: VecDeque<Past>,
-    nested: VecDeque<Nested>,
-    around: u64,
+    entries: Entries,
     places: [Option<Origin>; place::COUNT],
     bytes: Vec<Option<Origin>>,
 }
@@ -89,8 +74,7 @@ impl History {
     pub fn new(memory: usize) -> History {
         History {
             last: VecDeque::with_capacity(LAST),
-            nested: VecDeque::new(),
-            around: 0,
+            entries: Entries::default(),
             places: std::array::from_fn(|_| None),
             bytes: vec![None; memory],
         }
@@ -118,17 +102,10 @@ impl History {
 
     fn enter(&mut self, step: &Step) {
         if step.instruction.is_some_and(|instruction| instruction.effect.returns) {
-            match self.nested.pop_back() {
-                Some(_) => (),
-                None => self.around = self.around.saturating_sub(1),
-            }
+            self.entries.leave();
         }
         if let Some(entry) = step.line.entry {
-            if self.nested.len() == NESTED {
-                self.nested.pop_front();
-                self.around += 1;
-            }
-            self.nested.push_back(Nested { step: step.number, from: step.line.pc, entry });
+            self.entries.enter(Nested { step: step.number, from: step.line.pc, entry });
         }
     }
 
@@ -158,10 +135,6 @@ impl History {
     }
 
     pub fn moment(&self) -> Moment {
-        Moment {
-            steps: self.last.iter().cloned().collect(),
-            nested: self.nested.iter().copied().collect(),
-            around: self.around,
-        }
+        Moment { steps: self.last.iter().cloned().collect(), entries: self.entries.clone() }
     }
 }

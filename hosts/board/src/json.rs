@@ -3,7 +3,8 @@
 use serde_json::{json, Value};
 
 use crate::checks::{Ask, Check, Event};
-use crate::history::{Moment, Nested, Origin, Past};
+use crate::entries::Nested;
+use crate::history::{Moment, Origin, Past};
 use crate::place::{self, CY, TF};
 use crate::regions::{Reached, Region};
 use crate::report::{entry_words, hwdbg_flags, psw_flags, Report, Until};
@@ -118,11 +119,16 @@ fn origin_value(report: &Report, origin: &Origin) -> Value {
 }
 
 fn moment_value(report: &Report, until: Until, moment: &Moment) -> Value {
+    let inner: Vec<Value> =
+        moment.entries.inner.iter().map(|nested| nested_value(report, nested)).collect();
     json!({
         "until": if until == Until::End { "end" } else { "failure" },
         "steps": each(&moment.steps, |past| past_value(report, past)),
-        "entries_around": moment.around,
-        "entries": each(&moment.nested, |nested| nested_value(report, nested)),
+        "entries": {
+            "outer": each(&moment.entries.outer, |nested| nested_value(report, nested)),
+            "between": moment.entries.between,
+            "inner": inner,
+        },
     })
 }
 

@@ -3,6 +3,7 @@
 
 mod checks;
 mod effect;
+mod entries;
 mod files;
 mod history;
 mod input;

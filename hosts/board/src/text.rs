@@ -1,6 +1,7 @@
 //! The report in words. What is marked is written as stars.
 
 use crate::checks::{Ask, Check, Event};
+use crate::entries::{Entries, Nested};
 use crate::history::{Moment, Origin, Past};
 use crate::place::{self, CY, TF};
 use crate::regions::{Reached, Region};
@@ -186,15 +187,24 @@ fn moment_lines(report: &Report, until: Until, moment: &Moment) -> Vec<String> {
     let head = ["step", "pc", "entry", "address", "instruction"];
     lines.push(columns(head.map(String::from), "writes"));
     lines.extend(moment.steps.iter().map(past_line));
-    if moment.around > 0 {
-        lines.push(format!("entries that had not returned: {} more, and then", moment.around));
-    } else if !moment.nested.is_empty() {
-        lines.push("entries that had not returned, the outermost first".into());
-    }
-    lines.extend(moment.nested.iter().map(|nested| {
+    lines.extend(entry_lines(report, &moment.entries));
+    lines
+}
+
+fn entry_lines(report: &Report, entries: &Entries) -> Vec<String> {
+    let line = |nested: &Nested| {
         let from = report.place(nested.from);
         format!("  step {}, from {from}: {}", nested.step, entry_words(nested.entry))
-    }));
+    };
+    let mut lines = Vec::new();
+    if !entries.outer.is_empty() {
+        lines.push("entries that had not returned, the outermost first".into());
+    }
+    lines.extend(entries.outer.iter().map(line));
+    if entries.between > 0 {
+        lines.push(format!("  and {} more, before", entries.between));
+    }
+    lines.extend(entries.inner.iter().map(line));
     lines
 }
 
