@@ -1,15 +1,16 @@
 /*
  * Pushvratem: a proved reference model of the MANIK core, as a C library.
  *
- * tools/library makes the library for x86-64 Linux, three archives in target/staticlib: libabi.a has manik_run, libabi_list.a has
- * manik_list, libabi_show.a has manik_show, and libabi_asm.a has manik_assemble. docs/HOSTS.md shows programs with it. It needs nothing but itself, and
- * libabi_asm.a the C library's memset and memcpy: it calls no other function, keeps nothing between calls, and reads and writes
- * only what a call lends it.
+ * tools/library makes the library for x86-64 Linux, four archives in target/staticlib: libabi.a has manik_run, libabi_show.a has
+ * manik_show, libabi_list.a has manik_list, and libabi_asm.a has manik_assemble. docs/HOSTS.md shows programs with it. It needs
+ * nothing but itself, and libabi_asm.a the C library's memset and memcpy: it calls no other function, keeps nothing between calls,
+ * and reads and writes only what a call lends it.
  * So calls on different buffers may run in different threads at the same time.
  *
  * "The rules" below are document 01's, which docs/MANIK.md restates. What manik_run answers is the definition `called` of
- * crates/abi/specs/Call.antt, what manik_list answers is `listedOf` of crates/listing/specs/Lent.antt, and what manik_assemble
- * answers is `assembledOf` of crates/asm/specs/Assemble.antt; each function is proved equal to its definition for every input.
+ * crates/abi/specs/Call.antt, what manik_show answers is `showOf` of crates/abi_show/specs/Show.antt, what manik_list answers is
+ * `listedOf` of crates/listing/specs/Lent.antt, and what manik_assemble answers is `assembledOf` of
+ * crates/asm/specs/Assemble.antt; each function is proved equal to its definition for every input.
  */
 #ifndef MANIK_H
 #define MANIK_H
