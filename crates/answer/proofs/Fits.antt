@@ -9,6 +9,7 @@ use lib.Dec.{ltb, eqb}
 use lib.ListN.{length, getD, length-append}
 use Rattle.text.specs.Digits.{hexText, decimalText}
 use Rattle.text.proofs.Theorems.{digits-length, decimal-length, decimal-most}
+use Rattle.marks.specs.Memory.{Marks}
 use Rattle.instruction.specs.Reply.{numberOf}
 use Rattle.machine.specs.declared.Ended.{Ended}
 use Rattle.instruction.specs.declared.Reply.{Reply}
@@ -82,7 +83,7 @@ ended-fits e =
     go true = omega arith
     go false = state-fits (e .state)
 
-pub answer-fits : (p : Phase) (e : Bool) (i : ℕ) (m k : List ℕ) → length (answered p e i m k .text) ≤ 256
+pub answer-fits : (p : Phase) (e : Bool) (i : ℕ) (m : List ℕ) (k : Marks) → length (answered p e i m k .text) ≤ 256
 unfolding answered
 answer-fits Phase.First e i m k = omega (arith, bad-fits i)
 answer-fits (Phase.Body n) e i m k = omega (arith, bad-fits i)

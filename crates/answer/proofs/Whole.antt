@@ -13,7 +13,8 @@ use borrow.Author.Tests.{ltb-true, ltb-false, lt-ltb, le-leb, lt-leb, eqb-true, 
 use Rattle.text.specs.Digits.{digitsRead, decimalOf, addressOf, areHex}
 use Rattle.text.specs.Fields.{beforeOf, beyondOf, sameOf}
 use Rattle.text.specs.declared.Read.{Read}
-use Rattle.script.specs.Line.{Told, told, blank, sizeOf, budgetOf, putOf, countOf, markOf, firstOf, bodyOf, lineOf, numberAfter, wordMem, wordAt, wordMark, wordRun, areBytes}
+use Rattle.marks.specs.Memory.{Marks}
+use Rattle.script.specs.Line.{Told, told, blank, unmarked, sizeOf, budgetOf, putOf, countOf, markOf, firstOf, bodyOf, lineOf, numberAfter, wordMem, wordAt, wordMark, wordRun, areBytes}
 use Rattle.script.specs.Fault.{good, faultOf}
 use Rattle.script.specs.declared.Fault.{Fault}
 use Rattle.script.specs.Reader.{Fed, fed, startOf, endedOf, byteOf, feedOf}
@@ -50,7 +51,7 @@ bytes-long l h = rw (le-leb 2 (length l) (omega arith), lt-leb (length l) 32 h) 
     go true false = refl
     go false b = refl
 
-module _ (n : ℕ) (m k : List ℕ) where
+module _ (n : ℕ) (m : List ℕ) (k : Marks) where
   first-long : (l : List ℕ) → 45 ≤ length l → firstOf l ≡ Phase.Bad
   unfolding firstOf
   first-long l h = go (sameOf (beforeOf l) wordMem) refl
@@ -109,7 +110,7 @@ module _ (n : ℕ) (m k : List ℕ) where
       at false e false f false g = refl
 
 -- a good line has at most 44 bytes
-pub long-is-bad : (p : Phase) (l m k : List ℕ) → 45 ≤ length l → lineOf p l m k ≡ told Phase.Bad m k
+pub long-is-bad : (p : Phase) (l m : List ℕ) (k : Marks) → 45 ≤ length l → lineOf p l m k ≡ told Phase.Bad m k
 unfolding lineOf
 long-is-bad Phase.First l m k h = rw (first-long 0 m k l h)
 long-is-bad (Phase.Body n) l m k h = let f = fields-long l in body-long n m k (beforeOf l) (beyondOf l) (omega arith)
@@ -135,7 +136,7 @@ pub record Holds (u : ℕ) (line p : List ℕ) : Type 0 where
 
 -- from there on, bytes and lines come to the same answer
 abbrev Alike : List ℕ → Type 0
-Alike t = (ph : Phase) (n u : ℕ) (f : Fault) (line p m k : List ℕ) → Holds u line p
+Alike t = (ph : Phase) (n u : ℕ) (f : Fault) (line p m : List ℕ) (k : Marks) → Holds u line p
     → answerFed (feedOf t (fed (reader ph n u f) line m k)) ≡ answerTold (afterLines (linesOf p t) (script (told ph m k) n)) (leftOf p t)
 
 many : (u : ℕ) (line p : List ℕ) → Holds u line p → u ≡ length p
@@ -151,7 +152,7 @@ kept-one u b line p h =
     ap (λ (i : ℕ). take i (set line u b)) (add-one u) ∙ take-suc-set line u b (omega (arith, h .room, h .few)) ∙ ap (λ (x : List ℕ). x ++ (b ∷ [])) (h .first)
 
 -- past a bad line, and in a line that is too long already, the answer is fixed
-bad-told : (t p m k : List ℕ) (n : ℕ) → answerTold (afterLines (linesOf p t) (script (told Phase.Bad m k) n)) (leftOf p t) ≡ badText n
+bad-told : (t p m : List ℕ) (k : Marks) (n : ℕ) → answerTold (afterLines (linesOf p t) (script (told Phase.Bad m k) n)) (leftOf p t) ≡ badText n
 unfolding linesOf leftOf afterLines lineOf answered
 bad-told [] p m k n = refl
 bad-told (b ∷ t) p m k n = go (eqb b 10) (bad-told t [] m k n) (bad-told t (p ++ (b ∷ [])) m k n)
@@ -162,13 +163,13 @@ bad-told (b ∷ t) p m k n = go (eqb b 10) (bad-told t [] m k n) (bad-told t (p 
     go true x y = x
     go false x y = y
 
-bad-fed : (t line m k : List ℕ) (n u : ℕ) (f : Fault) → answerFed (feedOf t (fed (reader Phase.Bad n u f) line m k)) ≡ badText n
+bad-fed : (t line m : List ℕ) (k : Marks) (n u : ℕ) (f : Fault) → answerFed (feedOf t (fed (reader Phase.Bad n u f) line m k)) ≡ badText n
 unfolding answered
 bad-fed t line m k n u f =
     let s : Kept (fed (reader Phase.Bad n u f) line m k) (feedOf t (fed (reader Phase.Bad n u f) line m k)) = bad-stays t (fed (reader Phase.Bad n u f) line m k) refl in
     rw (s .phase) (ap badText (s .number))
 
-module _ (ph : Phase) (n : ℕ) (m k : List ℕ) where
+module _ (ph : Phase) (n : ℕ) (m : List ℕ) (k : Marks) where
   long-told : (t p : List ℕ) → 45 ≤ length p → answerTold (afterLines (linesOf p t) (script (told ph m k) n)) (leftOf p t) ≡ badText n
   unfolding linesOf leftOf afterLines answered
   long-told [] p h = rw (ne-eqb (length p) 0 (λ (e : length p ≡ 0). omega arith)) (go ph)
@@ -226,7 +227,7 @@ alike [] = alike-end
 alike (b ∷ t) = alike-more b t (alike t)
 
 pub fed-whole : (t l : List ℕ) → length l ≡ 45
-    → answerBy (feedOf t (fed startOf l blank blank) .reader) (feedOf t (fed startOf l blank blank) .mem) (feedOf t (fed startOf l blank blank) .marks) .text
+    → answerBy (feedOf t (fed startOf l blank unmarked) .reader) (feedOf t (fed startOf l blank unmarked) .mem) (feedOf t (fed startOf l blank unmarked) .marks) .text
     ≡ textOf t
 unfolding textOf
-fed-whole t l h = alike t Phase.First 1 0 good l [] blank blank (record { room = h; few = omega arith; first = refl })
+fed-whole t l h = alike t Phase.First 1 0 good l [] blank unmarked (record { room = h; few = omega arith; first = refl })

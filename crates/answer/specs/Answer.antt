@@ -1,11 +1,12 @@
 -- What is written (document 01, "The program").
 -- Assumes nothing.
-use Prim.Native.Nat.{ℕ, zero, suc, _+_}
+use Prim.Native.Nat.{ℕ, zero, suc, _+_, _/_}
 use mathlib.Core.Bool.{Bool, true, false, cond}
 use mathlib.Core.List.{List, [], _∷_, _++_}
 use lib.Dec.{ltb, eqb}
 use lib.ListN.{getD, take, drop}
 use Rattle.text.specs.Digits.{hexText, decimalText}
+use Rattle.marks.specs.Memory.{Marks, bits, bytes}
 use Rattle.instruction.specs.Reply.{numberOf}
 use Rattle.machine.specs.State.{freshState}
 use Rattle.machine.specs.Run.{Final, runOf}
@@ -50,29 +51,44 @@ stateText s = pcText (s .control .pc) ++ registersText 16 0 (s .regs) (s .marks)
 unfoldable pub endedText : Ended → List ℕ
 endedText e = endText (numberOf (e .reply)) (e .steps) ++ cond (ltb (numberOf (e .reply)) 10) [] (stateText (e .state))
 
--- "The state is fresh and the tape all zero"; memory and marks are the first n bytes of their rooms, b is the budget
-abbrev pub ranOf : ℕ → ℕ → List ℕ → List ℕ → Final
-ranOf n b m k = runOf b blank freshState (take n m) (take n k)
+-- the marks of memory's first n bytes, which a run on these is lent: the first bytes of the room for marks, as many as refusal 2 asks for (`badRoom`)
+abbrev pub lentOf : ℕ → Marks → Marks
+lentOf n (bits k) = bits (take ((n + 7) / 8) k)
+lentOf n (bytes k) = bytes (take n k)
+
+-- the slice that holds marks
+abbrev pub sliceOf : Marks → List ℕ
+sliceOf (bits k) = k
+sliceOf (bytes k) = k
+
+-- the room k after the run, which made j of what it was lent; the rest is kept
+abbrev pub roomAfter : ℕ → Marks → Marks → Marks
+roomAfter n j (bits k) = bits (sliceOf j ++ drop ((n + 7) / 8) k)
+roomAfter n j (bytes k) = bytes (sliceOf j ++ drop n k)
+
+-- "The state is fresh and the tape all zero"; memory is the first n bytes of its room, b is the budget
+abbrev pub ranOf : ℕ → ℕ → List ℕ → Marks → Final
+ranOf n b m k = runOf b blank freshState (take n m) (lentOf n k)
 
 -- The text, and memory and marks after it. A line is unfinished where a byte of it came, and then it is bad; so is an end of input before `run`.
 pub record Answered : Type 0 where
   pub text : List ℕ
   pub mem : List ℕ
-  pub marks : List ℕ
+  pub marks : Marks
 
-abbrev pub badly : ℕ → List ℕ → List ℕ → Answered
+abbrev pub badly : ℕ → List ℕ → Marks → Answered
 badly n m k = record { text = badText n; mem = m; marks = k }
 
-abbrev pub ranText : ℕ → ℕ → List ℕ → List ℕ → Answered
+abbrev pub ranText : ℕ → ℕ → List ℕ → Marks → Answered
 ranText n b m k =
-    record { text = endedText (ranOf n b m k .ended); mem = ranOf n b m k .mem ++ drop n m; marks = ranOf n b m k .marks ++ drop n k }
+    record { text = endedText (ranOf n b m k .ended); mem = ranOf n b m k .mem ++ drop n m; marks = roomAfter n (ranOf n b m k .marks) k }
 
-unfoldable pub answered : Phase → Bool → ℕ → List ℕ → List ℕ → Answered
+unfoldable pub answered : Phase → Bool → ℕ → List ℕ → Marks → Answered
 answered Phase.First e i m k = badly i m k
 answered (Phase.Body n) e i m k = badly i m k
 answered (Phase.Done n b) true i m k = ranText n b m k
 answered (Phase.Done n b) false i m k = badly i m k
 answered Phase.Bad e i m k = badly i m k
 
-abbrev pub answerBy : Reader → List ℕ → List ℕ → Answered
+abbrev pub answerBy : Reader → List ℕ → Marks → Answered
 answerBy r m k = answered (r .phase) (eqb (r .used) 0) (r .number) m k

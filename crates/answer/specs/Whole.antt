@@ -5,7 +5,7 @@ use mathlib.Core.Bool.{Bool, cond}
 use mathlib.Core.List.{List, [], _∷_, _++_}
 use lib.Dec.{eqb}
 use lib.ListN.{length}
-use Rattle.script.specs.Line.{Told, told, blank, lineOf, numberAfter}
+use Rattle.script.specs.Line.{Told, told, blank, unmarked, lineOf, numberAfter}
 use Rattle.script.specs.Reader.{Fed, feedOf}
 use Rattle.answer.specs.Answer.{answered}
 use Rattle.script.specs.declared.Phase.{Phase}
@@ -37,7 +37,7 @@ afterLines [] s = s
 afterLines (l ∷ ls) s = afterLines ls (afterLine l s)
 
 abbrev pub begin : Script
-begin = script (told Phase.First blank blank) 1
+begin = script (told Phase.First blank unmarked) 1
 
 -- nothing is left after the last newline
 abbrev pub isEnded : List ℕ → Bool

@@ -1,6 +1,6 @@
 -- Two inputs that differ only in marked contents, line after line: phase, line number and marks stay equal, and memory differs only where marked.
 -- Assumes nothing.
-use Prim.Native.Nat.{ℕ, suc, _+_, _*_, _/_, _<_, _≤_, min}
+use Prim.Native.Nat.{ℕ, suc, _+_, _*_, _/_, _%_, _<_, _≤_, min}
 use mathlib.Core.Path.{_≡_, refl, sym, ap, ap₂, subst, _∙_}
 use mathlib.Core.Bool.{Bool, true, false, cond, _&&_, _||_}
 use mathlib.Core.List.{List, [], _∷_, _++_}
@@ -10,14 +10,16 @@ use lib.Dec.{ltb, leb, eqb}
 use lib.ListN.{length, getD, set, take, drop, length-set, length-take, List·getD-eq-default}
 use lib.Seq.{sets, set-out, getD-set-same, getD-set-other, getD-take, drop-drop, take-at, drop-at}
 use borrow.Author.Tests.{ltb-true, ne-eqb}
+use Rattle.word.specs.Bits.{on}
+use Rattle.marks.specs.Memory.{Marks, bits as bit-layout, bytes as byte-layout, markAt, putMarks}
 use Rattle.text.specs.Digits.{valueOf, digitsRead, decimalOf, addressOf}
 use Rattle.text.specs.Fields.{tabOf, beforeOf, beyondOf, sameOf}
 use Rattle.text.specs.declared.Read.{Read}
 use Rattle.machine.specs.State.{freshState}
 use Rattle.secrecy.specs.Same.{SameMem, Same}
 use Rattle.secrecy.proofs.Psw.{psw-like}
-use Rattle.script.specs.Line.{Told, told, blank, budgetOf, areBytes, pairsOf, putOf, markFrom, countOf, markOf, firstOf, bodyOf, lineOf, numberAfter, wordAt, wordMark, wordRun}
-use Rattle.answer.specs.Answer.{answered}
+use Rattle.script.specs.Line.{Told, told, blank, unmarked, budgetOf, areBytes, pairsOf, putOf, countOf, markOf, firstOf, bodyOf, lineOf, numberAfter, wordAt, wordMark, wordRun}
+use Rattle.answer.specs.Answer.{answered, lentOf}
 use Rattle.answer.specs.Whole.{Script, script, linesOf, leftOf, afterLine, afterLines, begin, isEnded, textOf}
 use Rattle.script.specs.declared.Phase.{Phase}
 use Rattle.answer.proofs.Theorems.{marked-not-written}
@@ -25,46 +27,51 @@ use Rattle.calls.specs.Inputs.{atLine, AlikeLine, same, bytes, Alike, no
 
 -- ---- memory
 
-module _ {k m n : List ℕ} (s : SameMem k m n) where
+-- the marks that a run is lent are those of its bytes
+lent-at : (l i : ℕ) (k : Marks) → i < l → markAt (lentOf l k) i ≡ markAt k i
+lent-at l i (bit-layout k) g = ap (λ (p : ℕ). on p (i % 8)) (getD-take ((l + 7) / 8) k (i / 8) 0 (omega arith))
+lent-at l i (byte-layout k) g = ap (ltb 0) (getD-take l k i 0 g)
+
+module _ {k : Marks} {m n : List ℕ} (s : SameMem k m n) where
   -- one byte put, equal unless it is marked
-  set-same : (i v w : ℕ) → (getD k i 0 ≡ 0 → v ≡ w) → SameMem k (set m i v) (set n i w)
+  set-same : (i v w : ℕ) → (markAt k i ≡ false → v ≡ w) → SameMem k (set m i v) (set n i w)
   set-same i v w f = record { long = length-set m i v ∙ s .long ∙ sym (length-set n i w); equal = λ j. go j (ℕ-discrete j i) }
     where
-      here : Dec (i < length m) → getD k i 0 ≡ 0 → getD (set m i v) i 0 ≡ getD (set n i w) i 0
+      here : Dec (i < length m) → markAt k i ≡ false → getD (set m i v) i 0 ≡ getD (set n i w) i 0
       here (yes l) h = getD-set-same m i v 0 l ∙ f h ∙ sym (getD-set-same n i w 0 (omega (arith, s .long)))
       here (no l) h =
           ap (λ (x : List ℕ). getD x i 0) (set-out m i v (omega arith))
           ∙ s .equal i h
           ∙ sym (ap (λ (x : List ℕ). getD x i 0) (set-out n i w (omega (arith, s .long))))
 
-      go : (j : ℕ) → Dec (j ≡ i) → getD k j 0 ≡ 0 → getD (set m i v) j 0 ≡ getD (set n i w) j 0
-      go j (yes e) h = subst (λ (x : ℕ). getD (set m i v) x 0 ≡ getD (set n i w) x 0) (sym e) (here (decLt i (length m)) (subst (λ (x : ℕ). getD k x 0 ≡ 0) e h))
+      go : (j : ℕ) → Dec (j ≡ i) → markAt k j ≡ false → getD (set m i v) j 0 ≡ getD (set n i w) j 0
+      go j (yes e) h = subst (λ (x : ℕ). getD (set m i v) x 0 ≡ getD (set n i w) x 0) (sym e) (here (decLt i (length m)) (subst (λ (x : ℕ). markAt k x ≡ false) e h))
       go j (no ne) h = getD-set-other m i j v 0 ne ∙ s .equal j h ∙ sym (getD-set-other n i j w 0 ne)
 
-  take-same : (l : ℕ) → SameMem (take l k) (take l m) (take l n)
+  take-same : (l : ℕ) → SameMem (lentOf l k) (take l m) (take l n)
   take-same l = record { long = simp length-take (ap (min l) (s .long)); equal = λ i h. go i h (decLt i l) }
     where
       past : (x : List ℕ) (i : ℕ) → l ≤ i → getD (take l x) i 0 ≡ 0
       past x i g = List·getD-eq-default (take l x) 0 (omega (arith, length-take l x))
 
-      go : (i : ℕ) → getD (take l k) i 0 ≡ 0 → Dec (i < l) → getD (take l m) i 0 ≡ getD (take l n) i 0
-      go i h (yes g) = getD-take l m i 0 g ∙ s .equal i (sym (getD-take l k i 0 g) ∙ h) ∙ sym (getD-take l n i 0 g)
+      go : (i : ℕ) → markAt (lentOf l k) i ≡ false → Dec (i < l) → getD (take l m) i 0 ≡ getD (take l n) i 0
+      go i h (yes g) = getD-take l m i 0 g ∙ s .equal i (sym (lent-at l i k g) ∙ h) ∙ sym (getD-take l n i 0 g)
       go i h (no g) = past m i (omega arith) ∙ sym (past n i (omega arith))
 
 -- many bytes from a on
-sets-same : {k m n : List ℕ} → SameMem k m n → (a : ℕ) (b c : List ℕ) → length b ≡ length c
-    → ((i : ℕ) → getD k (a + i) 0 ≡ 0 → getD b i 0 ≡ getD c i 0) → SameMem k (sets m a b) (sets n a c)
+sets-same : {k : Marks} {m n : List ℕ} → SameMem k m n → (a : ℕ) (b c : List ℕ) → length b ≡ length c
+    → ((i : ℕ) → markAt k (a + i) ≡ false → getD b i 0 ≡ getD c i 0) → SameMem k (sets m a b) (sets n a c)
 sets-same s a [] [] l f = s
 sets-same s a [] (w ∷ c) l f = absurd (omega arith)
 sets-same s a (v ∷ b) [] l f = absurd (omega arith)
 sets-same {k} s a (v ∷ b) (w ∷ c) l f =
     sets-same
-    (set-same s a v w (λ h. f 0 (ap (λ (x : ℕ). getD k x 0) (zero-off a) ∙ h)))
+    (set-same s a v w (λ h. f 0 (ap (λ (x : ℕ). markAt k x) (zero-off a) ∙ h)))
     (suc a)
     b
     c
     (omega arith)
-    (λ i h. f (suc i) (ap (λ (x : ℕ). getD k x 0) (suc-off a i) ∙ h))
+    (λ i h. f (suc i) (ap (λ (x : ℕ). markAt k x) (suc-off a i) ∙ h))
   where
     zero-off : (a : ℕ) → a + 0 ≡ a
     zero-off a = omega arith
@@ -75,17 +82,17 @@ sets-same {k} s a (v ∷ b) (w ∷ c) l f =
 -- ---- one line
 
 -- what is known in two runs over the lines: the same phase p and marks j, and memories that differ only where k marks
-data SameTold (k : List ℕ) : Told → Told → Type 0 where
-  knows : (p : Phase) (j : List ℕ) {m n : List ℕ} → SameMem k m n → SameTold k (told p m j) (told p n j)
+data SameTold (k : Marks) : Told → Told → Type 0 where
+  knows : (p : Phase) (j : Marks) {m n : List ℕ} → SameMem k m n → SameTold k (told p m j) (told p n j)
 
 -- a test that answers the same in both
-pick : {k : List ℕ} {a b c d : Told} (t : Bool) → SameTold k a c → SameTold k b d → SameTold k (cond t a b) (cond t c d)
+pick : {k : Marks} {a b c d : Told} (t : Bool) → SameTold k a c → SameTold k b d → SameTold k (cond t a b) (cond t c d)
 pick true x y = x
 pick false x y = y
 
-module _ {k m n : List ℕ} (s : SameMem k m n) (size : ℕ) (j : List ℕ) where
+module _ {k : Marks} {m n : List ℕ} (s : SameMem k m n) (size : ℕ) (j : Marks) where
   puts : (a : ℕ) (g h : List ℕ) → areBytes g ≡ areBytes h → length g ≡ length h → length (pairsOf g) ≡ length (pairsOf h)
-      → ((i : ℕ) → getD k (a + i) 0 ≡ 0 → getD (pairsOf g) i 0 ≡ getD (pairsOf h) i 0)
+      → ((i : ℕ) → markAt k (a + i) ≡ false → getD (pairsOf g) i 0 ≡ getD (pairsOf h) i 0)
       → SameTold k (putOf (Read.Number a) g size m j) (putOf (Read.Number a) h size n j)
   unfolding putOf
   puts a g h t l b f =
@@ -100,7 +107,7 @@ module _ {k m n : List ℕ} (s : SameMem k m n) (size : ℕ) (j : List ℕ) wher
   count-same : (a : ℕ) (r : Read) → SameTold k (countOf a r size m j) (countOf a r size n j)
   unfolding countOf
   count-same a Read.Nothing = knows Phase.Bad j s
-  count-same a (Read.Number c) = pick (eqb c 0 || leb (a + c) size) (knows (Phase.Body size) (markFrom c j a) s) (knows Phase.Bad j s)
+  count-same a (Read.Number c) = pick (eqb c 0 || leb (a + c) size) (knows (Phase.Body size) (putMarks c j a true) s) (knows Phase.Bad j s)
 
   mark-same : (r c : Read) → SameTold k (markOf r c size m j) (markOf r c size n j)
   unfolding markOf
@@ -115,7 +122,7 @@ module _ {k m n : List ℕ} (s : SameMem k m n) (size : ℕ) (j : List ℕ) wher
       (pick (sameOf w wordRun) (knows (budgetOf (decimalOf r) size) j s)
       (knows Phase.Bad j s)))
 
-module _ {k m n : List ℕ} (s : SameMem k m n) (j : List ℕ) where
+module _ {k : Marks} {m n : List ℕ} (s : SameMem k m n) (j : Marks) where
   equal-line : (p : Phase) (l : List ℕ) → SameTold k (lineOf p l m j) (lineOf p l n j)
   unfolding lineOf
   equal-line Phase.First l = knows (firstOf l) j s
@@ -157,7 +164,7 @@ module _ (a : ℕ) (f h : List ℕ) (e : addressOf f ≡ Read.Number a) where
       ∙ sym (drop-drop 1 (length f) (f ++ (9 ∷ h)))
       ∙ ap (drop 1) (drop-at f (9 ∷ h) (length f) refl)
 
-  at-line : (size : ℕ) (m k : List ℕ) → lineOf (Phase.Body size) (atLine f h) m k ≡ putOf (Read.Number a) h size m k
+  at-line : (size : ℕ) (m : List ℕ) (k : Marks) → lineOf (Phase.Body size) (atLine f h) m k ≡ putOf (Read.Number a) h size m k
   unfolding lineOf bodyOf tabOf sameOf
   at-line size m k =
       ap₂ (λ (x y : List ℕ). putOf (addressOf x) y size m k) before-tab beyond-tab ∙ ap (λ (r : Read). putOf r h size m k) e
@@ -168,7 +175,7 @@ bytes-length [] = refl
 bytes-length (c ∷ []) = refl
 bytes-length (c ∷ d ∷ h) = let e = bytes-length h in omega arith
 
-module _ {k m n : List ℕ} (s : SameMem k m n) (j : List ℕ) where
+module _ {k : Marks} {m n : List ℕ} (s : SameMem k m n) (j : Marks) where
   line-same : {l q : List ℕ} → AlikeLine k l q → (p : Phase) → SameTold k (lineOf p l m j) (lineOf p q n j)
   unfolding lineOf firstOf tabOf sameOf
   line-same (same l) p = equal-line s j p l
@@ -182,16 +189,16 @@ module _ {k m n : List ℕ} (s : SameMem k m n) (j : List ℕ) where
 -- ---- all lines
 
 -- the same, and the same line number i
-data SameScript (k : List ℕ) : Script → Script → Type 0 where
-  alike : (p : Phase) (j : List ℕ) (i : ℕ) {m n : List ℕ} → SameMem k m n → SameScript k (script (told p m j) i) (script (told p n j) i)
+data SameScript (k : Marks) : Script → Script → Type 0 where
+  alike : (p : Phase) (j : Marks) (i : ℕ) {m n : List ℕ} → SameMem k m n → SameScript k (script (told p m j) i) (script (told p n j) i)
 
-counted : {k : List ℕ} {u v : Told} → SameTold k u v → (i : ℕ) → SameScript k (script u (numberAfter (u .phase) i)) (script v (numberAfter (v .phase) i))
+counted : {k : Marks} {u v : Told} → SameTold k u v → (i : ℕ) → SameScript k (script u (numberAfter (u .phase) i)) (script v (numberAfter (v .phase) i))
 counted (knows p j s) i = alike p j (numberAfter p i) s
 
-after-same : {k : List ℕ} {s t : Script} {l q : List ℕ} → AlikeLine k l q → SameScript k s t → SameScript k (afterLine l s) (afterLine q t)
+after-same : {k : Marks} {s t : Script} {l q : List ℕ} → AlikeLine k l q → SameScript k s t → SameScript k (afterLine l s) (afterLine q t)
 after-same e (alike p j i s) = counted (line-same s j e p) i
 
-lines-same : {k : List ℕ} {x y : List (List ℕ)} → Alike k x y → {s t : Script} → SameScript k s t → SameScript k (afterLines x s) (afterLines y t)
+lines-same : {k : Marks} {x y : List (List ℕ)} → Alike k x y → {s t : Script} → SameScript k s t → SameScript k (afterLines x s) (afterLines y t)
 unfolding afterLines
 lines-same none s = s
 lines-same (more e r) s = lines-same r (after-same e s)
@@ -208,28 +215,28 @@ fresh-same =
       control = record { rest = refl; psw = psw-like refl };
     }
 
-text-same : {k m n : List ℕ} → SameMem k m n → (p : Phase) (e : Bool) (i : ℕ) → answered p e i m k .text ≡ answered p e i n k .text
+text-same : {k : Marks} {m n : List ℕ} → SameMem k m n → (p : Phase) (e : Bool) (i : ℕ) → answered p e i m k .text ≡ answered p e i n k .text
 unfolding answered
 text-same s Phase.First e i = refl
 text-same s (Phase.Body size) e i = refl
-text-same {k} {m} {n} s (Phase.Done size b) true i = marked-not-written b blank (take size m) (take size n) (take size k) freshState freshState fresh-same (take-same s size)
+text-same {k} {m} {n} s (Phase.Done size b) true i = marked-not-written b blank (take size m) (take size n) (lentOf size k) freshState freshState fresh-same (take-same s size)
 text-same s (Phase.Done size b) false i = refl
 text-same s Phase.Bad e i = refl
 
 abbrev textBy : Script → Bool → List ℕ
 textBy s e = answered (s .told .phase) e (s .number) (s .told .mem) (s .told .marks) .text
 
-script-marks : {k : List ℕ} {s t : Script} → SameScript k s t → s .told .marks ≡ t .told .marks
+script-marks : {k : Marks} {s t : Script} → SameScript k s t → s .told .marks ≡ t .told .marks
 script-marks (alike p j i s) = refl
 
-script-text : {k : List ℕ} {s t : Script} → SameScript k s t → s .told .marks ≡ k → (e : Bool) → textBy s e ≡ textBy t e
-script-text (alike p j i {m} {n} s) q e = text-same (subst (λ (x : List ℕ). SameMem x m n) (sym q) s) p e i
+script-text : {k : Marks} {s t : Script} → SameScript k s t → s .told .marks ≡ k → (e : Bool) → textBy s e ≡ textBy t e
+script-text (alike p j i {m} {n} s) q e = text-same (subst (λ (x : Marks). SameMem x m n) (sym q) s) p e i
 
 -- ---- two inputs
 
 module _ (x y : List ℕ) (a : AlikeInputs x y) where
   scripts : SameScript (marksOf x) (afterLines (linesOf [] x) begin) (afterLines (linesOf [] y) begin)
-  scripts = lines-same (a .lines) (alike Phase.First blank 1 (record { long = refl; equal = λ i h. refl }))
+  scripts = lines-same (a .lines) (alike Phase.First unmarked 1 (record { long = refl; equal = λ i h. refl }))
 
   pub answers-same : textOf x ≡ textOf y
   unfolding textOf

@@ -4,13 +4,15 @@ use Prim.Native.Nat.{ℕ, zero, suc, _+_}
 use Prim.Native.Char.{code}
 use Prim.Native.String.{String, [] as empty, _∷_ as _then_}
 use mathlib.Core.Path.{_≡_, refl, ap}
+use mathlib.Core.Bool.{false, true≢false}
 use mathlib.Core.List.{List, [], _∷_, _++_}
 use native.Mathlib.Omega.{arith}
 use lib.ListN.{getD}
-use Rattle.word.specs.Bytes.{fill}
+use Rattle.word.specs.Bits.{put}
+use Rattle.marks.specs.Memory.{markAt, putMarks}
 use Rattle.text.specs.Digits.{valueOf, digitsRead, areHex}
 use Rattle.text.specs.Fields.{tabOf, sameOf}
-use Rattle.script.specs.Line.{blank, pairsOf, putOf, markFrom, countOf, markOf, firstOf, bodyOf, lineOf}
+use Rattle.script.specs.Line.{blank, unmarked, pairsOf, putOf, countOf, markOf, firstOf, bodyOf, lineOf}
 use Rattle.answer.specs.Whole.{linesOf, leftOf, afterLines, begin}
 use Rattle.script.specs.declared.Phase.{Phase}
 use Rattle.calls.specs.Inputs.{same, bytes, none, more, marksOf, AlikeInputs}
@@ -31,12 +33,12 @@ pub other : List ℕ
 other = input "0badf00d"
 
 -- bytes 4 to 7 are marked, so their contents may differ
-marked : (i : ℕ) → getD (marksOf one) (4 + i) 0 ≡ 0 → getD (pairsOf (ascii "c0ffee42")) i 0 ≡ getD (pairsOf (ascii "0badf00d")) i 0
-unfolding linesOf afterLines blank firstOf bodyOf lineOf putOf markOf countOf markFrom pairsOf fill tabOf sameOf valueOf digitsRead areHex one input ascii
-marked zero h = absurd (omega arith)
-marked (suc zero) h = absurd (omega arith)
-marked (suc (suc zero)) h = absurd (omega arith)
-marked (suc (suc (suc zero))) h = absurd (omega arith)
+marked : (i : ℕ) → markAt (marksOf one) (4 + i) ≡ false → getD (pairsOf (ascii "c0ffee42")) i 0 ≡ getD (pairsOf (ascii "0badf00d")) i 0
+unfolding linesOf afterLines blank unmarked firstOf bodyOf lineOf putOf markOf countOf pairsOf putMarks put tabOf sameOf valueOf digitsRead areHex one input ascii
+marked zero h = absurd (true≢false h)
+marked (suc zero) h = absurd (true≢false h)
+marked (suc (suc zero)) h = absurd (true≢false h)
+marked (suc (suc (suc zero))) h = absurd (true≢false h)
 marked (suc (suc (suc (suc i)))) h = refl
 
 pub one-other : AlikeInputs one other
@@ -52,7 +54,7 @@ one-other =
 
 -- the lines are good: memory has 8 bytes, and one step is run
 pub good : afterLines (linesOf [] one) begin .told .phase ≡ Phase.Done 8 1
-unfolding linesOf afterLines blank firstOf bodyOf lineOf putOf markOf countOf markFrom tabOf sameOf valueOf digitsRead areHex one input ascii
+unfolding linesOf afterLines blank firstOf bodyOf lineOf putOf markOf countOf tabOf sameOf valueOf digitsRead areHex one input ascii
 good = refl
 
 pub unequal : one ≡ other → ⊥

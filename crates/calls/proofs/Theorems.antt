@@ -12,7 +12,7 @@ use Rattle.secrecy.specs.Same.{SameMem, Same}
 use Rattle.abi.specs.Record.{stateAt, recordOf, Bytes}
 use Rattle.abi.specs.Call.{Answer, called}
 use Rattle.abi.proofs.Theorems.{Ensured}
-use Rattle.script.specs.Line.{blank}
+use Rattle.script.specs.Line.{blank, unmarked}
 use Rattle.script.specs.Reader.{fed, startOf}
 use Rattle.text.specs.Pages.{page, writeOn}
 use Rattle.answer.specs.Answer.{answerBy}
@@ -39,7 +39,7 @@ two-hosts (c ∷ cs) r q m n k s mem =
     let y : Answer = called q n k (c .tape) (c .budget) in
     let a : SameAnswer x y = two-records r q m n k (c .tape) (c .budget) s mem in
     more a
-    (subst (λ (l : List ℕ). SameAnswers (answersOf cs (x .state) (x .mem) (x .marks)) (answersOf cs (y .state) (y .mem) l)) (a .marks)
+    (subst (λ (l : Marks). SameAnswers (answersOf cs (x .state) (x .mem) (x .marks)) (answersOf cs (y .state) (y .mem) l)) (a .marks)
     (two-hosts cs (x .state) (y .state) (x .mem) (y .mem) (x .marks) (a .state) (a .mem)))
 
 -- 3. The same of two calls from what manik_run's contract ensures: x and y are what each of them leaves.
@@ -84,11 +84,11 @@ equal-marks x y a = marks-same x y a
 pub two-answers : (ps qs : List (List ℕ)) (l h o out room : List ℕ) (n i : ℕ) → AlikeInputs (joined ps) (joined qs) → length l ≡ 45 → length h ≡ 45 → length o ≡ 256
     → page out n
     ≡ writeOn
-    (answerBy (feedAll ps (fed startOf l blank blank) .reader) (feedAll ps (fed startOf l blank blank) .mem) (feedAll ps (fed startOf l blank blank) .marks) .text)
+    (answerBy (feedAll ps (fed startOf l blank unmarked) .reader) (feedAll ps (fed startOf l blank unmarked) .mem) (feedAll ps (fed startOf l blank unmarked) .marks) .text)
     (page o 0)
     → page room i
     ≡ writeOn
-    (answerBy (feedAll qs (fed startOf h blank blank) .reader) (feedAll qs (fed startOf h blank blank) .mem) (feedAll qs (fed startOf h blank blank) .marks) .text)
+    (answerBy (feedAll qs (fed startOf h blank unmarked) .reader) (feedAll qs (fed startOf h blank unmarked) .mem) (feedAll qs (fed startOf h blank unmarked) .marks) .text)
     (page o 0)
     → page out n ≡ page room i
 two-answers ps qs l h o out room n i a p q r e f =

@@ -28,7 +28,7 @@ fn feed_whole(
     part: &mut [u8],
     line: &mut [u8; 45],
     m: &mut [u8; 16384],
-    k: &mut [u8; 16384],
+    k: &mut [u8; 2048],
 ) -> Reader {
     io::read_full(STDIN_FILENO, part);
     script::feed(r, part, line, m, k)
@@ -40,7 +40,7 @@ fn feed_some(
     part: &mut [u8],
     line: &mut [u8; 45],
     m: &mut [u8; 16384],
-    k: &mut [u8; 16384],
+    k: &mut [u8; 2048],
 ) -> Reader {
     let end = word::at_most(n, part.len());
     feed_whole(r, &mut part[..end], line, m, k)
@@ -52,7 +52,7 @@ fn feed_all(
     part: &mut [u8; 7],
     line: &mut [u8; 45],
     m: &mut [u8; 16384],
-    k: &mut [u8; 16384],
+    k: &mut [u8; 2048],
 ) -> Reader {
     let mut s = r;
     let mut left = count;
@@ -68,7 +68,7 @@ fn answer_one(
     part: &mut [u8; 7],
     line: &mut [u8; 45],
     m: &mut [u8; 16384],
-    k: &mut [u8; 16384],
+    k: &mut [u8; 2048],
 ) {
     let r = feed_all(script::start(m, k), count, part, line, m, k);
     let mut out = [0u8; 256];
@@ -83,7 +83,7 @@ fn answer_all(
     part: &mut [u8; 7],
     line: &mut [u8; 45],
     m: &mut [u8; 16384],
-    k: &mut [u8; 16384],
+    k: &mut [u8; 2048],
 ) {
     let mut i: u32 = 0;
     while i < 10000 {
@@ -103,6 +103,6 @@ fn main() {
     let mut part = [0u8; 7];
     let mut line = [0u8; 45];
     let mut m = [0u8; 16384];
-    let mut k = [0u8; 16384];
+    let mut k = [0u8; 2048];
     answer_all(&mut name, &mut count, &mut part, &mut line, &mut m, &mut k);
 }

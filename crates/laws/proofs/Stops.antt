@@ -1,9 +1,9 @@
 -- A step stops with 12, 13 or 14 and nothing else; so a run gives one of the replies listed in specs/Replies.antt.
 -- Assumes nothing.
 use Prim.Native.Nat.{ℕ, zero, suc, _+_}
-use mathlib.Core.Bool.{Bool, true, false, cond, not}
+use mathlib.Core.Bool.{Bool, true, false, cond}
 use mathlib.Core.List.{List}
-use lib.Dec.{ltb, eqb, lit≤}
+use lib.Dec.{ltb, lit≤}
 use lib.ListN.{length, getD, take}
 use Rattle.word.specs.Bytes.{anyAbove}
 use Rattle.cpu.specs.Control.{pcOf}

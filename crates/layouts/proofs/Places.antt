@@ -1,16 +1,16 @@
 -- Marks in two slices that agree at each position: what is read of them is equal, and what is put keeps them so.
 -- Assumes nothing.
 use Prim.Native.Nat.{ℕ, zero, suc, _+_, _-_, _%_, _<_, _≤_}
-use mathlib.Core.Path.{_≡_, refl, sym, ap, subst, _∙_}
+use mathlib.Core.Path.{_≡_, refl, sym, subst, _∙_}
 use mathlib.Core.Bool.{Bool, true, false, _||_}
 use mathlib.Core.List.{List, [], _∷_}
 use native.Mathlib.Decide.{ℕ-discrete}
 use native.Mathlib.Omega.{arith}
 use lib.Dec.{ltb}
-use lib.ListN.{length, set, length-set}
+use lib.ListN.{set, length-set}
 use Rattle.word.specs.Bits.{num}
 use Rattle.word.specs.Bytes.{anyAbove}
-use Rattle.marks.specs.Memory.{Marks, bits, bytes, markAt, markPut, anyMark, putMarks, badRoom, badMark}
+use Rattle.marks.specs.Memory.{Marks, bits, bytes, markAt, markPut, anyMark, putMarks}
 use Rattle.marks.proofs.Places.{Has, room-has, put-same, put-other, any-same}
 use Rattle.layouts.specs.Layouts.{Formed, SameMarks, copied}
 

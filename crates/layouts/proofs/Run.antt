@@ -5,7 +5,7 @@ use mathlib.Core.Path.{_≡_, refl, ap, _∙_}
 use mathlib.Core.List.{List, _∷_}
 use lib.ListN.{length, getD}
 use Rattle.marks.specs.Memory.{Marks}
-use Rattle.machine.specs.Step.{Stepped, stepOf, after}
+use Rattle.machine.specs.Step.{Stepped, after}
 use Rattle.machine.specs.Run.{Final, judge, goOn, stepsOf, judged, runOf}
 use Rattle.machine.specs.Trace.{Shown, traceOn, traceOf, shown, shownOf}
 use Rattle.machine.specs.declared.State.{State}

@@ -19,7 +19,7 @@ fn read_part(
     part: &mut [u8; 4096],
     line: &mut [u8; 45],
     m: &mut [u8; 16384],
-    k: &mut [u8; 16384],
+    k: &mut [u8; 2048],
 ) -> Turn {
     let got = libc::read(STDIN_FILENO, part);
     if got < 0 {
@@ -38,7 +38,7 @@ fn feed_start(
     part: &[u8],
     line: &mut [u8; 45],
     m: &mut [u8; 16384],
-    k: &mut [u8; 16384],
+    k: &mut [u8; 2048],
 ) -> Turn {
     let n = io::count(got, part);
     after_part(script::feed(r, &part[..n], line, m, k))
@@ -61,7 +61,7 @@ fn read_all(
     part: &mut [u8; 4096],
     line: &mut [u8; 45],
     m: &mut [u8; 16384],
-    k: &mut [u8; 16384],
+    k: &mut [u8; 2048],
 ) -> Turn {
     let mut s = r;
     let mut left = u64::MAX;
@@ -96,7 +96,7 @@ fn write_made(text: &[u8; 256], n: usize) {
     write_start(text, n);
 }
 
-fn write_answer(r: Reader, m: &mut [u8; 16384], k: &mut [u8; 16384]) {
+fn write_answer(r: Reader, m: &mut [u8; 16384], k: &mut [u8; 2048]) {
     let mut out = [0u8; 256];
     let n = answer::answer(r, m, k, &mut out);
     write_made(&out, n);
@@ -106,7 +106,7 @@ fn main() {
     let mut part = [0u8; 4096];
     let mut line = [0u8; 45];
     let mut m = [0u8; 16384];
-    let mut k = [0u8; 16384];
+    let mut k = [0u8; 2048];
     let r = script::start(&mut m, &mut k);
     let t = read_all(r, &mut part, &mut line, &mut m, &mut k);
     match t {

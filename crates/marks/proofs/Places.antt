@@ -195,7 +195,7 @@ put-past k i b h = ap bits (set-out k (i / 8) _ h)
 
 -- a slice of the right length has a place for each byte of memory
 pub room-has : (n : ℕ) (k : Marks) → badRoom n k ≡ false → (i : ℕ) → i < n → Has k i
-room-has n (bits k) e i l = let q : length k ≡ (n + 7) / 8 = eqb-true _ _ (not-false _ e) in omega arith
+room-has n (bits k) e i l = let q = eqb-true (length k) _ (not-false _ e) in omega (arith, q)
 room-has n (bytes k) e i l = let q : length k ≡ n = eqb-true _ _ (not-false _ e) in omega arith
 
 -- those that are put, where the slice has places for them

@@ -10,8 +10,9 @@ use lib.ListN.{length, getD, drop, set, drop-of-length-le}
 use lib.Seq.{sets, drop-cons}
 use Rattle.text.specs.Digits.{pairOf}
 use Rattle.word.specs.declared.Width.{Width}
-use Rattle.marks.specs.Memory.{markAll}
-use Rattle.script.specs.Line.{pairsOf, markFrom}
+use Rattle.marks.specs.Memory.{Marks, markPut, putMarks, markAll}
+use Rattle.marks.proofs.Places.{puts-more}
+use Rattle.script.specs.Line.{pairsOf}
 use Rattle.script.specs.Fault.{endsWord, lettersIn}
 use Rattle.script.specs.Reader.{Fed, byteOf, feedOf}
 
@@ -57,25 +58,10 @@ put-none m h a i l = rw (bytes-none h i l)
 
 -- ---- marks
 
-pub mark-start : (k : List ℕ) (a c : ℕ) → markFrom (c - 0) k (a + 0) ≡ markFrom c k a
-mark-start k a c =
-    let e : a + 0 ≡ a = omega arith in
-    let q : c - 0 ≡ c = omega arith in
-    rw (e, q)
-
-pub mark-more : (k : List ℕ) (a c i : ℕ) → i < c
-    → markFrom (c - i) k (a + i) ≡ markFrom (c - (i + 1)) (markAll Width.Byte k (record { 0 = a + i }) true) (a + (i + 1))
-unfolding markFrom
-mark-more k a c i l =
-    let e : c - i ≡ suc (c - (i + 1)) = omega arith in
-    let q : a + (i + 1) ≡ a + i + 1 = omega arith in
-    rw (e, q)
-
-pub mark-none : (k : List ℕ) (a c i : ℕ) → c ≤ i → markFrom (c - i) k a ≡ k
-unfolding markFrom
-mark-none k a c i l =
-    let e : c - i ≡ 0 = omega arith in
-    rw e
+-- i bytes of k marked, which makes it j, and one byte more
+pub mark-more : (k j : Marks) (a i : ℕ) → j ≡ putMarks i k a true → markAll Width.Byte j (record { 0 = a + i }) true ≡ putMarks (i + 1) k a true
+unfolding putMarks
+mark-more k j a i e = rw (puts-more i k a true, ← e) (ap (λ (n : ℕ). markPut j n true) (omega arith))
 
 -- ---- parts
 

@@ -11,6 +11,7 @@ use borrow.Author.Tests.{ltb-true, ltb-false, lt-ltb, le-ltb, le-leb, leb-true, 
 use Rattle.text.specs.Digits.{valueOf, digitsRead, digitsIn, leadingZero, decimalOf, addressOf, areHex}
 use Rattle.text.specs.Fields.{beforeOf, beyondOf, sameOf}
 use Rattle.text.specs.declared.Read.{Read}
+use Rattle.marks.specs.Memory.{Marks}
 use Rattle.script.specs.Line.{told, sizeOf, budgetOf, isEven, areBytes, putOf, countOf, markOf, firstOf, bodyOf, lineOf, wordMem, wordAt, wordMark, wordRun}
 use Rattle.script.specs.Fault.{good, found, lettersIn, badDigits, badAddress, decimalFault, addressFault, bytesFault, limitFault, awayFault, countFault, numberFault, putFault, markFault, firstFault, bodyFault, faultOf}
 use Rattle.script.specs.Statements.{isBad, isFault}
@@ -272,9 +273,9 @@ budget-bad l r n = decimal-fault 4 l r (limitFault (decimalOf r) l) ∙ go (deci
     go Read.Nothing = refl
     go (Read.Number b) = limit-bad (Phase.Done n) l (λ (i : ℕ). refl) b
 
-module _ (l : List ℕ) (n : ℕ) (m k : List ℕ) where
+module _ (l : List ℕ) (n : ℕ) (m : List ℕ) (k : Marks) where
   -- whatever memory and marks then are
-  body-if : (t : Bool) (x y : List ℕ) → isBad (cond t (told (Phase.Body n) x y) (told Phase.Bad m k) .phase) ≡ not t
+  body-if : (t : Bool) (x : List ℕ) (y : Marks) → isBad (cond t (told (Phase.Body n) x y) (told Phase.Bad m k) .phase) ≡ not t
   body-if true x y = refl
   body-if false x y = refl
 
@@ -336,7 +337,7 @@ first-bad l = go (sameOf (beforeOf l) wordMem)
     go false = ap isFault (found-reason Reason.First (lettersIn 4 l) l)
 
 -- in every phase; after a bad line its own fault stays
-pub line-bad : (p : Phase) (f : Fault) (l m k : List ℕ) → isFault (f .reason) ≡ isBad p → isFault (faultOf p f l .reason) ≡ isBad (lineOf p l m k .phase)
+pub line-bad : (p : Phase) (f : Fault) (l m : List ℕ) (k : Marks) → isFault (f .reason) ≡ isBad p → isFault (faultOf p f l .reason) ≡ isBad (lineOf p l m k .phase)
 unfolding faultOf lineOf
 line-bad Phase.First f l m k h = first-bad l
 line-bad (Phase.Body n) f l m k h = body-bad l n m k (beforeOf l) (beyondOf l)

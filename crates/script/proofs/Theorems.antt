@@ -6,6 +6,7 @@ use mathlib.Core.Bool.{Bool, true, false, cond}
 use mathlib.Core.List.{List, [], _∷_}
 use lib.Dec.{ltb, eqb}
 use lib.ListN.{take}
+use Rattle.marks.specs.Memory.{Marks}
 use Rattle.script.specs.Line.{lineOf}
 use Rattle.script.specs.Fault.{faultOf}
 use Rattle.script.specs.Reader.{Fed, fed, keptBy, keptIn, endedOf, startOf, byteOf, feedOf}
@@ -18,7 +19,7 @@ use Rattle.script.proofs.Reasons.{line-bad}
 abbrev Explained : Reader → Type 0
 Explained r = isFault (r .fault .reason) ≡ isBad (r .phase)
 
-ended-explained : (r : Reader) (l m k : List ℕ) → Explained r → Explained (endedOf r l m k .reader)
+ended-explained : (r : Reader) (l m : List ℕ) (k : Marks) → Explained r → Explained (endedOf r l m k .reader)
 ended-explained r l m k h = line-bad (r .phase) (r .fault) (take (r .used) l) m k h
 
 byte-explained : (b : ℕ) (s : Fed) → Explained (s .reader) → Explained (byteOf b s .reader)
@@ -37,7 +38,7 @@ unfolding feedOf
 fed-explained [] s h = h
 fed-explained (b ∷ t) s h = fed-explained t (byteOf b s) (byte-explained b s h)
 
-pub a-reason-if-bad : (t l m k : List ℕ) → isFault (feedOf t (fed startOf l m k) .reader .fault .reason) ≡ isBad (feedOf t (fed startOf l m k) .reader .phase)
+pub a-reason-if-bad : (t l m : List ℕ) (k : Marks) → isFault (feedOf t (fed startOf l m k) .reader .fault .reason) ≡ isBad (feedOf t (fed startOf l m k) .reader .phase)
 a-reason-if-bad t l m k = fed-explained t (fed startOf l m k) refl
 
 -- After a bad line neither phase, number, reason, memory nor marks change, whatever follows.

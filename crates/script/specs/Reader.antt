@@ -5,6 +5,7 @@ use mathlib.Core.Bool.{cond}
 use mathlib.Core.List.{List, [], _∷_}
 use lib.Dec.{ltb, eqb}
 use lib.ListN.{take, set}
+use Rattle.marks.specs.Memory.{Marks}
 use Rattle.script.specs.Line.{Told, lineOf, numberAfter}
 use Rattle.script.specs.Fault.{good, faultOf}
 use Rattle.script.specs.declared.Fault.{Fault}
@@ -16,9 +17,9 @@ pub record Fed : Type 0 where
   pub reader : Reader
   pub line : List ℕ
   pub mem : List ℕ
-  pub marks : List ℕ
+  pub marks : Marks
 
-abbrev pub fed : Reader → List ℕ → List ℕ → List ℕ → Fed
+abbrev pub fed : Reader → List ℕ → List ℕ → Marks → Fed
 fed r l m k = record { reader = r; line = l; mem = m; marks = k }
 
 abbrev pub startOf : Reader
@@ -35,13 +36,13 @@ keptIn b r l = cond (ltb (r .used) 45) (set l (r .used) b) l
 abbrev pub readerAfter : Told → ℕ → Fault → Reader
 readerAfter t n f = record { phase = t .phase; number = numberAfter (t .phase) n; used = 0; fault = f }
 
-abbrev pub toldBy : Reader → List ℕ → List ℕ → List ℕ → Told
+abbrev pub toldBy : Reader → List ℕ → List ℕ → Marks → Told
 toldBy r l m k = lineOf (r .phase) (take (r .used) l) m k
 
 abbrev pub faultBy : Reader → List ℕ → Fault
 faultBy r l = faultOf (r .phase) (r .fault) (take (r .used) l)
 
-abbrev pub endedOf : Reader → List ℕ → List ℕ → List ℕ → Fed
+abbrev pub endedOf : Reader → List ℕ → List ℕ → Marks → Fed
 endedOf r l m k = fed (readerAfter (toldBy r l m k) (r .number) (faultBy r l)) l (toldBy r l m k .mem) (toldBy r l m k .marks)
 
 -- one byte, and many. A good line has at most 44 bytes (`long-is-bad`): its 45th makes a line bad, whatever follows.

@@ -1,6 +1,7 @@
 // Bytes taken one by one, in parts of any size.
 ghost use mathlib.Core.Path.{_≡_};
-ghost use Rattle.script.specs.Line.{blank, nextNumber, numberAfter};
+ghost use Rattle.marks.specs.Memory.{bits};
+ghost use Rattle.script.specs.Line.{blank, unmarked, nextNumber, numberAfter};
 ghost use Rattle.script.specs.Reader.{fed, startOf, keptBy, keptIn, readerAfter, toldBy, faultBy, byteOf, feedOf};
 use crate::Phase;
 use crate::Reader;
@@ -8,6 +9,7 @@ use crate::faults::line_fault;
 use crate::faults::no_fault;
 use crate::lines::whole_line;
 use crate::rooms::clear;
+use crate::rooms::unmark;
 
 fn next_number(n: u64) -> u64
     ensures { λ r. ⌜ r ≡ nextNumber n ⌝ }
@@ -26,10 +28,10 @@ fn number_after(p: Phase, n: u64) -> u64
     }
 }
 
-fn end_line(r: Reader, line: &[u8; 45], m: &mut [u8; 16384], k: &mut [u8; 16384]) -> Reader
-    ensures { λ n. ⌜ n ≡ readerAfter (toldBy r (now (line .entry)) (now (m .entry)) (now (k .entry))) (r .number) (faultBy r (now (line .entry))) ⌝ }
-    ensures { λ _. ⌜ now (m .exit) ≡ toldBy r (now (line .entry)) (now (m .entry)) (now (k .entry)) .mem ⌝ }
-    ensures { λ _. ⌜ now (k .exit) ≡ toldBy r (now (line .entry)) (now (m .entry)) (now (k .entry)) .marks ⌝ }
+fn end_line(r: Reader, line: &[u8; 45], m: &mut [u8; 16384], k: &mut [u8; 2048]) -> Reader
+    ensures { λ n. ⌜ n ≡ readerAfter (toldBy r (now (line .entry)) (now (m .entry)) (bits (now (k .entry)))) (r .number) (faultBy r (now (line .entry))) ⌝ }
+    ensures { λ _. ⌜ now (m .exit) ≡ toldBy r (now (line .entry)) (now (m .entry)) (bits (now (k .entry))) .mem ⌝ }
+    ensures { λ _. ⌜ bits (now (k .exit)) ≡ toldBy r (now (line .entry)) (now (m .entry)) (bits (now (k .entry))) .marks ⌝ }
 {
     let before = r.phase;
     let kept = r.fault;
@@ -64,9 +66,9 @@ fn take_byte(
     b: u8,
     line: &mut [u8; 45],
     m: &mut [u8; 16384],
-    k: &mut [u8; 16384],
+    k: &mut [u8; 2048],
 ) -> Reader
-    ensures { λ n. ⌜ fed n (now (line .exit)) (now (m .exit)) (now (k .exit)) ≡ byteOf b (fed r (now (line .entry)) (now (m .entry)) (now (k .entry))) ⌝ }
+    ensures { λ n. ⌜ fed n (now (line .exit)) (now (m .exit)) (bits (now (k .exit))) ≡ byteOf b (fed r (now (line .entry)) (now (m .entry)) (bits (now (k .entry)))) ⌝ }
 {
     if b == 10 {
         return end_line(r, line, m, k);
@@ -78,14 +80,14 @@ fn take_byte(
     end_line(kept, line, m, k)
 }
 
-// Before the first byte: nothing is known, and memory and marks are zero.
-pub fn start(m: &mut [u8; 16384], k: &mut [u8; 16384]) -> Reader
+// Before the first byte: nothing is known, memory is zero, and none of it is marked.
+pub fn start(m: &mut [u8; 16384], k: &mut [u8; 2048]) -> Reader
     ensures { λ r. ⌜ r ≡ startOf ⌝ }
     ensures { λ _. ⌜ now (m .exit) ≡ blank ⌝ }
-    ensures { λ _. ⌜ now (k .exit) ≡ blank ⌝ }
+    ensures { λ _. ⌜ bits (now (k .exit)) ≡ unmarked ⌝ }
 {
     clear(m);
-    clear(k);
+    unmark(k);
     Reader {
         phase: Phase::First,
         number: 1,
@@ -100,9 +102,9 @@ pub fn feed(
     part: &[u8],
     line: &mut [u8; 45],
     m: &mut [u8; 16384],
-    k: &mut [u8; 16384],
+    k: &mut [u8; 2048],
 ) -> Reader
-    ensures { λ n. ⌜ fed n (now (line .exit)) (now (m .exit)) (now (k .exit)) ≡ feedOf (now (part .entry)) (fed r (now (line .entry)) (now (m .entry)) (now (k .entry))) ⌝ }
+    ensures { λ n. ⌜ fed n (now (line .exit)) (now (m .exit)) (bits (now (k .exit))) ≡ feedOf (now (part .entry)) (fed r (now (line .entry)) (now (m .entry)) (bits (now (k .entry)))) ⌝ }
 {
     let mut s = r;
     let mut i: usize = 0;

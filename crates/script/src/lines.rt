@@ -1,10 +1,12 @@
 // What each line of an input does.
 ghost use mathlib.Core.Path.{_≡_};
+ghost use mathlib.Core.Bool.{true};
 ghost use Prim.Native.Nat.{_+_, _<_};
 ghost use lib.Dec.{leb};
 ghost use lib.ListN.{set};
 ghost use lib.Seq.{sets};
-ghost use Rattle.script.specs.Line.{sizeOf, budgetOf, isEven, areBytes, pairsOf, putOf, markFrom, countOf, markOf, firstOf, bodyOf, lineOf};
+ghost use Rattle.marks.specs.Memory.{bits, putMarks};
+ghost use Rattle.script.specs.Line.{sizeOf, budgetOf, isEven, areBytes, pairsOf, putOf, countOf, markOf, firstOf, bodyOf, lineOf};
 use crate::Phase;
 use text::Read;
 use word::ByteAddr;
@@ -85,10 +87,10 @@ pub fn is_inside(a: u32, c: usize, n: u32) -> bool
     a as usize + c <= n as usize
 }
 
-fn put_line(r: Read, h: &[u8], n: u32, m: &mut [u8; 16384], k: &mut [u8; 16384]) -> Phase
-    ensures { λ p. ⌜ p ≡ putOf r (now (h .entry)) n (now (m .entry)) (now (k .entry)) .phase ⌝ }
-    ensures { λ _. ⌜ now (m .exit) ≡ putOf r (now (h .entry)) n (now (m .entry)) (now (k .entry)) .mem ⌝ }
-    ensures { λ _. ⌜ now (k .exit) ≡ putOf r (now (h .entry)) n (now (m .entry)) (now (k .entry)) .marks ⌝ }
+fn put_line(r: Read, h: &[u8], n: u32, m: &mut [u8; 16384], k: &mut [u8; 2048]) -> Phase
+    ensures { λ p. ⌜ p ≡ putOf r (now (h .entry)) n (now (m .entry)) (bits (now (k .entry))) .phase ⌝ }
+    ensures { λ _. ⌜ now (m .exit) ≡ putOf r (now (h .entry)) n (now (m .entry)) (bits (now (k .entry))) .mem ⌝ }
+    ensures { λ _. ⌜ bits (now (k .exit)) ≡ putOf r (now (h .entry)) n (now (m .entry)) (bits (now (k .entry))) .marks ⌝ }
 {
     match r {
         Read::Nothing => Phase::Bad,
@@ -107,7 +109,7 @@ fn put_line(r: Read, h: &[u8], n: u32, m: &mut [u8; 16384], k: &mut [u8; 16384])
 
 fn mark_bytes(a: u32, c: u32, k: &mut [u8])
     requires { ⌜ a + c < 4294967296 ⌝ }
-    ensures { λ _. ⌜ now (k .exit) ≡ markFrom c (now (k .entry)) a ⌝ }
+    ensures { λ _. ⌜ bits (now (k .exit)) ≡ putMarks c (bits (now (k .entry))) a true ⌝ }
 {
     let mut i: u32 = 0;
     while i < c {
@@ -116,10 +118,10 @@ fn mark_bytes(a: u32, c: u32, k: &mut [u8])
     }
 }
 
-fn count_line(a: u32, r: Read, n: u32, m: &mut [u8; 16384], k: &mut [u8; 16384]) -> Phase
-    ensures { λ p. ⌜ p ≡ countOf a r n (now (m .entry)) (now (k .entry)) .phase ⌝ }
-    ensures { λ _. ⌜ now (m .exit) ≡ countOf a r n (now (m .entry)) (now (k .entry)) .mem ⌝ }
-    ensures { λ _. ⌜ now (k .exit) ≡ countOf a r n (now (m .entry)) (now (k .entry)) .marks ⌝ }
+fn count_line(a: u32, r: Read, n: u32, m: &mut [u8; 16384], k: &mut [u8; 2048]) -> Phase
+    ensures { λ p. ⌜ p ≡ countOf a r n (now (m .entry)) (bits (now (k .entry))) .phase ⌝ }
+    ensures { λ _. ⌜ now (m .exit) ≡ countOf a r n (now (m .entry)) (bits (now (k .entry))) .mem ⌝ }
+    ensures { λ _. ⌜ bits (now (k .exit)) ≡ countOf a r n (now (m .entry)) (bits (now (k .entry))) .marks ⌝ }
 {
     match r {
         Read::Nothing => Phase::Bad,
@@ -136,10 +138,10 @@ fn count_line(a: u32, r: Read, n: u32, m: &mut [u8; 16384], k: &mut [u8; 16384])
     }
 }
 
-fn mark_line(r: Read, c: Read, n: u32, m: &mut [u8; 16384], k: &mut [u8; 16384]) -> Phase
-    ensures { λ p. ⌜ p ≡ markOf r c n (now (m .entry)) (now (k .entry)) .phase ⌝ }
-    ensures { λ _. ⌜ now (m .exit) ≡ markOf r c n (now (m .entry)) (now (k .entry)) .mem ⌝ }
-    ensures { λ _. ⌜ now (k .exit) ≡ markOf r c n (now (m .entry)) (now (k .entry)) .marks ⌝ }
+fn mark_line(r: Read, c: Read, n: u32, m: &mut [u8; 16384], k: &mut [u8; 2048]) -> Phase
+    ensures { λ p. ⌜ p ≡ markOf r c n (now (m .entry)) (bits (now (k .entry))) .phase ⌝ }
+    ensures { λ _. ⌜ now (m .exit) ≡ markOf r c n (now (m .entry)) (bits (now (k .entry))) .mem ⌝ }
+    ensures { λ _. ⌜ bits (now (k .exit)) ≡ markOf r c n (now (m .entry)) (bits (now (k .entry))) .marks ⌝ }
 {
     match r {
         Read::Nothing => Phase::Bad,
@@ -156,10 +158,10 @@ fn first_line(l: &[u8]) -> Phase
     Phase::Bad
 }
 
-fn body_line(w: &[u8], r: &[u8], n: u32, m: &mut [u8; 16384], k: &mut [u8; 16384]) -> Phase
-    ensures { λ p. ⌜ p ≡ bodyOf (now (w .entry)) (now (r .entry)) n (now (m .entry)) (now (k .entry)) .phase ⌝ }
-    ensures { λ _. ⌜ now (m .exit) ≡ bodyOf (now (w .entry)) (now (r .entry)) n (now (m .entry)) (now (k .entry)) .mem ⌝ }
-    ensures { λ _. ⌜ now (k .exit) ≡ bodyOf (now (w .entry)) (now (r .entry)) n (now (m .entry)) (now (k .entry)) .marks ⌝ }
+fn body_line(w: &[u8], r: &[u8], n: u32, m: &mut [u8; 16384], k: &mut [u8; 2048]) -> Phase
+    ensures { λ p. ⌜ p ≡ bodyOf (now (w .entry)) (now (r .entry)) n (now (m .entry)) (bits (now (k .entry))) .phase ⌝ }
+    ensures { λ _. ⌜ now (m .exit) ≡ bodyOf (now (w .entry)) (now (r .entry)) n (now (m .entry)) (bits (now (k .entry))) .mem ⌝ }
+    ensures { λ _. ⌜ bits (now (k .exit)) ≡ bodyOf (now (w .entry)) (now (r .entry)) n (now (m .entry)) (bits (now (k .entry))) .marks ⌝ }
 {
     if text::is_same(w, b"at") {
         return put_line(text::address(text::before(r)), text::beyond(r), n, m, k);
@@ -174,10 +176,10 @@ fn body_line(w: &[u8], r: &[u8], n: u32, m: &mut [u8; 16384], k: &mut [u8; 16384
     Phase::Bad
 }
 
-pub fn whole_line(p: Phase, l: &[u8], m: &mut [u8; 16384], k: &mut [u8; 16384]) -> Phase
-    ensures { λ r. ⌜ r ≡ lineOf p (now (l .entry)) (now (m .entry)) (now (k .entry)) .phase ⌝ }
-    ensures { λ _. ⌜ now (m .exit) ≡ lineOf p (now (l .entry)) (now (m .entry)) (now (k .entry)) .mem ⌝ }
-    ensures { λ _. ⌜ now (k .exit) ≡ lineOf p (now (l .entry)) (now (m .entry)) (now (k .entry)) .marks ⌝ }
+pub fn whole_line(p: Phase, l: &[u8], m: &mut [u8; 16384], k: &mut [u8; 2048]) -> Phase
+    ensures { λ r. ⌜ r ≡ lineOf p (now (l .entry)) (now (m .entry)) (bits (now (k .entry))) .phase ⌝ }
+    ensures { λ _. ⌜ now (m .exit) ≡ lineOf p (now (l .entry)) (now (m .entry)) (bits (now (k .entry))) .mem ⌝ }
+    ensures { λ _. ⌜ bits (now (k .exit)) ≡ lineOf p (now (l .entry)) (now (m .entry)) (bits (now (k .entry))) .marks ⌝ }
 {
     match p {
         Phase::First => first_line(l),

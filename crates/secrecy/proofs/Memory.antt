@@ -9,17 +9,15 @@ use native.Mathlib.Nat.{not-suc-le-zero}
 use native.Mathlib.Omega.{arith}
 use lib.Dec.{ltb, leb}
 use lib.ListN.{length, getD, set, length-set}
-use lib.Seq.{getD-set-same, getD-set-other, set-out, set-comm}
+use lib.Seq.{getD-set-same, getD-set-other, set-out}
 use borrow.Author.Tests.{ltb-true, ltb-false, leb-true}
-use Rattle.word.specs.Bits.{num}
-use Rattle.word.specs.Bytes.{bytesOf, inside, load, store, loadOf, storeOf}
+use Rattle.word.specs.Bytes.{bytesOf, inside, store, loadOf, storeOf}
 use Rattle.word.specs.declared.ByteAddr.{ByteAddr}
 use Rattle.word.specs.declared.Width.{Width}
 use Rattle.word.proofs.Memory.{load-same, store-length, store-kept}
 use Rattle.marks.specs.Memory.{Marks, markAt, putMarks, markedAt, markAll}
 use Rattle.marks.proofs.Places.{Has, none-marked, puts-other, puts-same, has-puts}
 use Rattle.secrecy.specs.Same.{SameList, SameMem}
-use Rattle.secrecy.proofs.Exec.{left-off, right-off}
 
 -- one place written, with its mark m
 module _ {M : Type 0} {z : M} {k : List M} {a b : List ℕ} (s : SameList z k a b) (each : length a ≡ length k) (i : ℕ) (m : M) (v w : ℕ) (f : m ≡ z → v ≡ w) where

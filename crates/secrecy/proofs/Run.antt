@@ -7,7 +7,6 @@ use mathlib.Core.List.{List, _∷_}
 use native.Mathlib.Omega.{arith}
 use lib.Dec.{ltb, eqb, lit≤}
 use lib.ListN.{length, getD, set, take, length-set}
-use borrow.Author.Tests.{eqb-true, not-false}
 use Rattle.word.specs.Bits.{fieldOf}
 use Rattle.word.specs.Bytes.{anyAbove}
 use Rattle.cpu.specs.Control.{withSfr}

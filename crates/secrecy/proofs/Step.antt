@@ -6,7 +6,7 @@ use mathlib.Core.Bool.{Bool, true, false, cond, not, _&&_}
 use mathlib.Core.List.{List}
 use native.Mathlib.Omega.{arith}
 use lib.Dec.{ltb, eqb, leb, lit≤}
-use lib.ListN.{length, getD}
+use lib.ListN.{getD}
 use Rattle.word.specs.Bits.{on}
 use Rattle.word.specs.Bytes.{bytesOf}
 use Rattle.word.specs.declared.ByteAddr.{ByteAddr}

@@ -1,17 +1,10 @@
 use mathlib.Core.Path.{sym}
 use lib.Seq.{length-take-le}
-use borrow.Author.Tests.{lt-ltb, le-ltb, le-leb, lt-leb, eq-eqb, ne-eqb}
+use borrow.Author.Tests.{lt-ltb, le-ltb}
 use Rattle.machine.specs.Run.{judge}
 use borrow.Author.Needs.{needs}
 use Rattle.machine.proofs.refusals.judge_all.Statement.{statement}
 use Rattle.machine.proofs.refusals.judge_all.Tie as tie
-use Rattle.machine.proofs.refusals.judge_all.Reads as reads
-use Rattle.machine.proofs.refusals.judge_all.Lts as lts
-use Rattle.machine.proofs.refusals.is_bad_length.Reads as is-bad-length-reads
-use Rattle.machine.proofs.refusals.is_out_of_form.Reads as is-out-of-form-reads
-use Rattle.marks.proofs.memory.has_bad_mark.Reads as has-bad-mark-reads
-use Rattle.marks.proofs.memory.is_bad_room.Reads as is-bad-room-reads
-use Rattle.word.proofs.has_above.Reads as has-above-reads
 
 is-bad-length-requires : tie.Need-is-bad-length-requires
 is-bad-length-requires c κs = search needs

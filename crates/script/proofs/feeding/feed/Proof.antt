@@ -1,5 +1,6 @@
 use borrow.Author.Needs.{needs}
 use Rattle.script.proofs.Laws.{feed-more, feed-none}
+use Rattle.marks.specs.Memory.{bits}
 use Rattle.script.specs.Reader.{fed, feedOf}
 use lib.ListN.{length, drop}
 use mathlib.Core.Path.{_≡_, refl, sym, _∙_}
@@ -9,7 +10,7 @@ use Rattle.script.proofs.feeding.feed.Statement.{statement}
 use Rattle.script.proofs.feeding.feed.Tie as tie
 
 abbrev Inv-loop : tie.InvT-loop
-Inv-loop part line₀ m₀ k₀ s₀ i₀ line m k s i = (i ≤ length part) × (feedOf (drop i part) (fed s line m k) ≡ feedOf part (fed s₀ line₀ m₀ k₀))
+Inv-loop part line₀ m₀ k₀ s₀ i₀ line m k s i = (i ≤ length part) × (feedOf (drop i part) (fed s line m (bits k)) ≡ feedOf part (fed s₀ line₀ m₀ (bits k₀)))
 
 abbrev μ-loop : tie.MeasureT-loop
 μ-loop part line₀ m₀ k₀ s₀ i₀ line m k s i = length part - i

@@ -5,14 +5,14 @@ use Rattle.script.proofs.feeding.start.Tie as tie
 clear-requires : tie.Need-clear-requires
 clear-requires c κs = search needs
 
-clear-requires-2 : tie.Need-clear-requires-2
-clear-requires-2 c κs = search needs
+unmark-requires : tie.Need-unmark-requires
+unmark-requires c κs = search needs
 
 no-fault-requires : tie.Need-no-fault-requires
 no-fault-requires c κs = search needs
 
 returns : tie.Need-returns
-returns c = (rw (c .no-fault .ensures), (c .before .before .before .clear .ensures, c .before .clear2 .ensures))
+returns c = (rw (c .no-fault .ensures), (c .before .before .before .clear .ensures, c .before .unmark .ensures))
 
 pub start-spec : {M : Type 1} → statement M
-start-spec = tie.close (tie.spec clear-requires clear-requires-2 no-fault-requires returns)
+start-spec = tie.close (tie.spec clear-requires unmark-requires no-fault-requires returns)

@@ -1,7 +1,8 @@
 use mathlib.Core.Path.{_∙_}
 use Prim.Native.Nat.{_+_}
 use native.Mathlib.Omega.{arith}
-use Rattle.script.specs.Line.{countOf, markFrom}
+use Rattle.marks.specs.Memory.{putMarks}
+use Rattle.script.specs.Line.{countOf}
 use borrow.Author.Tests.{ne-eqb, leb-true}
 use mathlib.Core.Path.{refl, sym}
 use borrow.Author.Needs.{needs}
@@ -15,7 +16,7 @@ enum-known-r : tie.Need-enum-known-r
 enum-known-r c = search needs
 
 returns : tie.Need-returns
-unfolding countOf markFrom
+unfolding countOf putMarks
 returns c = rw (c .before .before .r .given .1, c .if1 .taken) (refl, (refl, refl))
 
 cast-is-inside : tie.Need-cast-is-inside
