@@ -105,8 +105,6 @@ pub enum Error {
     RecordOutOfShape,
     /// The library gave an answer that it never gives.
     UnknownReply { number: u32, steps: u64 },
-    /// The library gave a line that it never gives.
-    UnknownLine([u8; 12]),
 }
 
 impl fmt::Display for Error {
@@ -116,7 +114,6 @@ impl fmt::Display for Error {
             Error::UnknownReply { number, steps } => {
                 write!(formatter, "unknown reply {number} after {steps} steps")
             }
-            Error::UnknownLine(line) => write!(formatter, "unknown line {line:02x?}"),
         }
     }
 }

@@ -1,7 +1,8 @@
 //! What the next step would show: its program counter, its entry and its data address; and all
 //! that is unsafe about the call that tells.
 
-use crate::reply::Error;
+use std::fmt;
+
 use crate::state::{State, RECORD_LENGTH};
 
 extern "C" {
@@ -48,6 +49,26 @@ pub enum Entry {
     DataError,
 }
 
+/// The library gave an answer that it never gives.
+#[derive(Clone, Copy, Debug, PartialEq, Eq, Hash)]
+pub enum ShowError {
+    UnknownReply { number: u32 },
+    UnknownLine([u8; LINE_LENGTH]),
+}
+
+impl fmt::Display for ShowError {
+    fn fmt(&self, formatter: &mut fmt::Formatter) -> fmt::Result {
+        match self {
+            ShowError::UnknownReply { number } => {
+                write!(formatter, "unknown reply {number} to a look")
+            }
+            ShowError::UnknownLine(line) => write!(formatter, "unknown line {line:02x?}"),
+        }
+    }
+}
+
+impl std::error::Error for ShowError {}
+
 /// What the next step would show with these lines; none where it would stop, or the run would be
 /// refused. Nothing changes. `marks` has one bit for each byte of memory, the lowest address in the
 /// lowest bit. An error says that the library isn't the one this package was written for.
@@ -58,9 +79,14 @@ pub enum Entry {
 /// let memory = [0x81, 0x10, 0, 0, 0, 0, 0, 0];
 /// let line = manik::show(&state, &memory, &[0], 0)?.expect("it would be completed");
 /// assert_eq!((line.pc, line.entry, line.address), (0, None, Some(4)));
-/// # Ok::<(), manik::Error>(())
+/// # Ok::<(), manik::ShowError>(())
 /// ```
-pub fn show(state: &State, memory: &[u8], marks: &[u8], lines: u8) -> Result<Option<Line>, Error> {
+pub fn show(
+    state: &State,
+    memory: &[u8],
+    marks: &[u8],
+    lines: u8,
+) -> Result<Option<Line>, ShowError> {
     show_record(&state.to_record(), memory, marks, lines)
 }
 
@@ -70,12 +96,12 @@ pub fn show_record(
     memory: &[u8],
     marks: &[u8],
     lines: u8,
-) -> Result<Option<Line>, Error> {
+) -> Result<Option<Line>, ShowError> {
     let mut line = [0; LINE_LENGTH];
     match call(record, memory, marks, lines, &mut line) {
         0 => Ok(None),
-        1 => read(&line).map(Some).ok_or(Error::UnknownLine(line)),
-        number => Err(Error::UnknownReply { number, steps: 0 }),
+        1 => read(&line).map(Some).ok_or(ShowError::UnknownLine(line)),
+        number => Err(ShowError::UnknownReply { number }),
     }
 }
 
