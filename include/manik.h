@@ -1,15 +1,16 @@
 /*
  * Pushvratem: a proved reference model of the MANIK core, as a C library.
  *
- * tools/library makes the library for x86-64 Linux, three archives in target/staticlib: libabi.a has manik_run, libabi_list.a has
- * manik_list, and libabi_asm.a has manik_assemble. docs/HOSTS.md shows programs with it. It needs nothing but itself, and
- * libabi_asm.a the C library's memset and memcpy: it calls no other function, keeps nothing between calls, and reads and writes
- * only what a call lends it.
+ * tools/library makes the library for x86-64 Linux, four archives in target/staticlib: libabi.a has manik_run, libabi_show.a has
+ * manik_show, libabi_list.a has manik_list, and libabi_asm.a has manik_assemble. docs/HOSTS.md shows programs with it. It needs
+ * nothing but itself, and libabi_asm.a the C library's memset and memcpy: it calls no other function, keeps nothing between calls,
+ * and reads and writes only what a call lends it.
  * So calls on different buffers may run in different threads at the same time.
  *
  * "The rules" below are document 01's, which docs/MANIK.md restates. What manik_run answers is the definition `called` of
- * crates/abi/specs/Call.antt, what manik_list answers is `listedOf` of crates/listing/specs/Lent.antt, and what manik_assemble
- * answers is `assembledOf` of crates/asm/specs/Assemble.antt; each function is proved equal to its definition for every input.
+ * crates/abi/specs/Call.antt, what manik_show answers is `showOf` of crates/abi_show/specs/Show.antt, what manik_list answers is
+ * `listedOf` of crates/listing/specs/Lent.antt, and what manik_assemble answers is `assembledOf` of
+ * crates/asm/specs/Assemble.antt; each function is proved equal to its definition for every input.
  */
 #ifndef MANIK_H
 #define MANIK_H
@@ -92,6 +93,35 @@ uint32_t manik_run(uint8_t *state, size_t state_len,
                    uint8_t *marks, size_t marks_len,
                    const uint8_t *tape, size_t tape_len,
                    uint64_t budget, uint64_t *steps);
+
+/* A line is a record of 12 bytes. A word is 4 bytes, the highest first. */
+#define MANIK_LINE_SIZE 12
+#define MANIK_LINE_AT_PC 0      /* the program counter before the step, a word */
+#define MANIK_LINE_AT_ADDRESS 4 /* the data address after alignment, a word; 0 where there is none */
+#define MANIK_LINE_AT_HAS 8     /* 1 where there is a data address, else 0 */
+#define MANIK_LINE_AT_ENTRY 9   /* 's' swint, 'd' debug, 't' timer, 'e' external, 'b' bus error, or '-', a character */
+#define MANIK_LINE_AT_DETAIL 10 /* a swint's operand; a debug entry's hits: 1 breakpoint, 2 WP0, 4 WP1, added; the external line's number; of a
+                                   bus error the bit of PSW that it sets: 15 of a fetch, 14 of data; else 0 */
+
+/*
+ * Says what the next step would show, without making it: what manik_run with a budget of 1 and a tape of this one byte would do.
+ *
+ *   state   the record
+ *   mem     the memory image
+ *   marks   its marks, as for manik_run
+ *   lines   the interrupt lines of the step, bit i for line i
+ *   line    takes the line
+ *
+ * Returns 1 where the step would be completed, and `line` is its record. Returns 0 where it would stop or the run would be refused, where
+ * `state` is no record, and where line_len is not MANIK_LINE_SIZE; then `line` does not change. Nothing else changes.
+ *
+ * The caller sees to what no contract can say in C: every pointer is valid for its length and not null, even where the length
+ * is 0; line overlaps none of the others.
+ */
+uint32_t manik_show(const uint8_t *state, size_t state_len,
+                    const uint8_t *mem, size_t mem_len,
+                    const uint8_t *marks, size_t marks_len,
+                    uint8_t lines, uint8_t *line, size_t line_len);
 
 /* A buffer of this length has room for the listing of a range of so many bytes, whatever they are. */
 #define MANIK_LISTING_ROOM(bytes) (24 * (bytes))

@@ -10,7 +10,7 @@ fn main() {
         None => PathBuf::from(env!("CARGO_MANIFEST_DIR")).join("../../target/staticlib"),
     };
     println!("cargo:rustc-link-search=native={}", folder.display());
-    for part in ["abi", "abi_list", "abi_asm"] {
+    for part in ["abi", "abi_show", "abi_list", "abi_asm"] {
         let archive = folder.join(format!("lib{part}.a"));
         println!("cargo:rerun-if-changed={}", archive.display());
         assert!(archive.exists(), "no {}: make it with tools/library", archive.display());

@@ -164,7 +164,7 @@ fn is_within(limit: u8, at: usize, n: usize, r: &[u8]) -> bool
 }
 
 // The length, marks and flags of 0 or 1, and zero where zero stands.
-fn is_shaped(r: &[u8]) -> bool
+pub fn is_shaped(r: &[u8]) -> bool
     ensures { λ b. ⌜ b ≡ shaped (now (r .entry)) ⌝ }
 {
     if r.len() == 160 {

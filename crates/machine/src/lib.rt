@@ -11,6 +11,7 @@ use cpu::Entry;
 use instruction::Halt;
 use instruction::Reply;
 use marks::Flags;
+pub use refusals::judge_all;
 pub use registers::fresh;
 pub use step::entry_of;
 use word::ByteAddr;

@@ -25,6 +25,7 @@ mod call;
 mod list;
 pub mod marks;
 mod reply;
+mod show;
 mod shown;
 mod state;
 
@@ -32,6 +33,7 @@ pub use assemble::{assemble, AssembleError, AssembleRefusal, Assembled};
 pub use call::run_record;
 pub use list::{list, ListError, LISTING_ROOM};
 pub use reply::{Error, Outcome, Reply};
+pub use show::{show, show_record, Entry, Line, ShowError};
 pub use state::{Register, State, RECORD_LENGTH};
 
 /// Runs over the lent memory and marks, at most `budget` steps, one tape byte for each.
