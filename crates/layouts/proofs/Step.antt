@@ -4,9 +4,8 @@ use Prim.Native.Nat.{ℕ}
 use mathlib.Core.Path.{_≡_, refl, ap}
 use mathlib.Core.Bool.{Bool, true, false, cond, not}
 use mathlib.Core.List.{List}
-use native.Mathlib.Omega.{arith}
 use lib.ListN.{length}
-use borrow.Author.Tests.{leb-true}
+use borrow.Author.Tests.{leb-true, not-false}
 use Rattle.word.specs.Bytes.{bytesOf, inside}
 use Rattle.word.specs.declared.ByteAddr.{ByteAddr}
 use Rattle.word.specs.declared.Width.{Width}
@@ -37,11 +36,6 @@ use Rattle.machine.specs.declared.Data.{Data}
 use Rattle.layouts.specs.Layouts.{SameMarks, SameStep, stops, goes}
 use Rattle.layouts.proofs.Places.{any-both, puts-both}
 
--- "not outside" is inside
-lies : (t : Bool) → not t ≡ false → t ≡ true
-lies true e = refl
-lies false e = let z : _≡_ {A = ℕ} 0 1 = cc in absurd (omega arith)
-
 -- what is looked at only inside memory
 when-inside : {A : Type 0} (t p q : Bool) (x y z : A) → (t ≡ true → p ≡ q) → cond (not t) x (cond p y z) ≡ cond (not t) x (cond q y z)
 when-inside true p q x y z f = ap (λ (b : Bool). cond b y z) (f refl)
@@ -69,7 +63,7 @@ module _ (m : List ℕ) {k j : Marks} (s : SameMarks (length m) k j) where
 
   loaded-same : (r : Reach) → outside r m ≡ false → loadedMark r k ≡ loadedMark r j
   loaded-same Reach.Nowhere h = refl
-  loaded-same (Reach.Reads w a) h = marked-same w a (lies _ h)
+  loaded-same (Reach.Reads w a) h = marked-same w a (not-false _ h)
   loaded-same (Reach.Writes w a) h = refl
   loaded-same (Reach.Raises n) h = refl
 
@@ -77,7 +71,7 @@ module _ (m : List ℕ) {k j : Marks} (s : SameMarks (length m) k j) where
   stored-same Reach.Nowhere v b h = s
   stored-same (Reach.Reads w a) v b h = s
   stored-same (Reach.Writes w a) v b h =
-      let i : inside m a (bytesOf w) ≡ true = lies _ h in
+      let i : inside m a (bytesOf w) ≡ true = not-false _ h in
       rw (i, store-length (bytesOf w) m (a .0) v) (puts-both s (bytesOf w) (a .0) b (leb-true _ _ i))
   stored-same (Reach.Raises n) v b h = s
 

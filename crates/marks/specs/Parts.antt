@@ -1,4 +1,4 @@
--- A part that only the contracts of this crate's helpers cite; proofs/Memory.antt ties it to the marks.
+-- A part that only the contracts of this crate's helpers cite; proofs/Places.antt ties it to the marks.
 -- Assumes nothing.
 use Prim.Native.Nat.{ℕ, _+_, _/_, _%_}
 use mathlib.Core.Bool.{Bool, _&&_}

@@ -7,6 +7,7 @@ use mathlib.Core.List.{List}
 use native.Mathlib.Omega.{arith}
 use lib.Dec.{ltb, eqb, leb, lit≤}
 use lib.ListN.{getD}
+use borrow.Author.Tests.{not-false}
 use Rattle.word.specs.Bits.{on}
 use Rattle.word.specs.Bytes.{bytesOf}
 use Rattle.word.specs.declared.ByteAddr.{ByteAddr}
@@ -142,16 +143,11 @@ module _ {k : Marks} {m n : List ℕ} (s : SameMem k m n) where
   loaded-same (Reach.Writes w a) h = refl
   loaded-same (Reach.Raises n) h = refl
 
--- "not outside" is inside
-lies : (t : Bool) → not t ≡ false → t ≡ true
-lies true e = refl
-lies false e = let z : _≡_ {A = ℕ} 0 1 = cc in absurd (omega arith)
-
 module _ {k : Marks} {m n : List ℕ} (s : SameMem k m n) (each : Covers k m) where
   stored-same : (r : Reach) (b : Bool) (v x : ℕ) → outside r m ≡ false → (b ≡ false → v ≡ x) → SameMem (markedTo r b k) (storedTo r v m) (storedTo r x n)
   stored-same Reach.Nowhere b v x o f = s
   stored-same (Reach.Reads w a) b v x o f = s
-  stored-same (Reach.Writes w a) b v x o f = stored s each w a b v x (lies _ o) f
+  stored-same (Reach.Writes w a) b v x o f = stored s each w a b v x (not-false _ o) f
   stored-same (Reach.Raises n) b v x o f = s
 
   each-same : (r : Reach) (b : Bool) (v : ℕ) → Covers (markedTo r b k) (storedTo r v m)
