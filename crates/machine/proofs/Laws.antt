@@ -1,6 +1,6 @@
 -- Laws that the functions' proofs cite: the choice where nothing rare can happen, a step by its parts, and one more step of a run.
 -- Assumes nothing.
-use Prim.Native.Nat.{ℕ, suc, _+_, _-_, _/_, _%_, _^_, _<_, _≤_}
+use Prim.Native.Nat.{ℕ, suc, _+_, _-_, _*_, _/_, _%_, _^_, _<_, _≤_}
 use mathlib.Core.Path.{_≡_, refl, sym, ap, ap₂, _∙_}
 use mathlib.Core.Bool.{Bool, true, false, cond, not, Bool·beq, _&&_}
 use mathlib.Core.List.{List}
@@ -167,7 +167,7 @@ module _ (s : State) (m : List ℕ) (k : Marks) where
   abbrev StepBy : Begun → Stepped → Type 0
   StepBy (Begun.Halted h) x = x ≡ haltStep h Data.Nowhere (s .flags) (s .control) m k
   StepBy (Begun.Enter c) x = (outIn x ≡ goes (record { control = c; flags = s .flags; reg = noReg; value = 0; mark = false })) × (memIn m x ≡ m) × (marksIn k x ≡ k)
-  StepBy (Begun.Half h) x = x ≡ halfStep h (valueAt s (nibC h)) (valueAt s (nibD h)) (s .flags) (s .control) m k
+  StepBy (Begun.Half hi lo) x = x ≡ halfStep hi lo (valueAt s (lo / 16)) (valueAt s (lo % 16)) (s .flags) (s .control) m k
 
   pub step-by-parts : (t : ℕ) → StepBy (begunOf t (s .control) m k) (stepOf t s m k)
   unfolding stepOf begunOf halfStep halfAct entryDone
@@ -175,7 +175,11 @@ module _ (s : State) (m : List ℕ) (k : Marks) where
     where
       half : (x : Half) → StepBy (begunHalf x) (fetchStep (byFirst x (pcOf (s .control)) m k) s m k)
       half (Half.Halted r) = refl
-      half (Half.Bits h) = served h
+      half (Half.Bits h) =
+          let a : h / 256 * 256 + h % 256 ≡ h = omega arith in
+          let b : h % 256 / 16 ≡ nibC h = omega arith in
+          let d : h % 256 % 16 ≡ nibD h = omega arith in
+          rw (a, b, d) (served h)
 
       go : (v : Event) → StepBy (begunBy v (s .control) m k) (eventStep v s m k)
       go (Event.Enter e) = (refl, refl, refl)
@@ -253,9 +257,9 @@ module _ (b n : ℕ) (t : List ℕ) (regs : List ℕ) (marks : List Bool) (f : F
   abbrev here : State
   here = stateOf regs marks f c
 
-  -- an instruction by its first half h, with the registers that it names
-  abbrev halved : ℕ → Act
-  halved h = halfAct h (valueAt here (nibC h)) (valueAt here (nibD h)) f c m k
+  -- an instruction by the bytes of its first half, with the registers that it names
+  abbrev halved : ℕ → ℕ → Act
+  halved hi lo = halfAct hi lo (valueAt here (lo / 16)) (valueAt here (lo % 16)) f c m k
 
   begun : (x : Begun) → g ≡ x → StepBy here m k x (stepOf (getD t n 0) here m k)
   begun x e = rw (sym o ∙ e) at (step-by-parts here m k (getD t n 0))
@@ -283,35 +287,35 @@ module _ (b n : ℕ) (t : List ℕ) (regs : List ℕ) (marks : List Bool) (f : F
   begins-error h p e q x y = enters-on e (haltStep h Data.Nowhere f c m k) (begun (Begun.Halted h) p) x y (halt-enters h Data.Nowhere f c m k e (sym q))
 
   -- a half that answers q
-  module _ (h : ℕ) (p : g ≡ Begun.Half h) (q : Halt) (u : Out.Halted q ≡ actOut (halved h) c) where
-    halves : (stepOf (getD t n 0) here m k ≡ haltStep q (fetchedData (halfFetched h c m k) (valueAt here (nibD h)) c) f c m k)
-        × (actMem (halved h) (valueAt here (nibC h)) m ≡ m) × (actMarks (halved h) (valueAt here (nibC h)) k ≡ k)
+  module _ (hi lo : ℕ) (p : g ≡ Begun.Half hi lo) (q : Halt) (u : Out.Halted q ≡ actOut (halved hi lo) c) where
+    halves : (stepOf (getD t n 0) here m k ≡ haltStep q (fetchedData (halfFetched hi lo c m k) (valueAt here (lo % 16)) c) f c m k)
+        × (actMem (halved hi lo) (valueAt here (lo / 16)) m ≡ m) × (actMarks (halved hi lo) (valueAt here (lo / 16)) k ≡ k)
     unfolding halfStep
     halves =
-        let z = act-halts (halved h) (fetchedData (halfFetched h c m k) (valueAt here (nibD h)) c) (valueAt here (nibC h)) f c m k q u in
-        (begun (Begun.Half h) p ∙ z .0, z .1, z .2)
+        let z = act-halts (halved hi lo) (fetchedData (halfFetched hi lo c m k) (valueAt here (lo % 16)) c) (valueAt here (lo / 16)) f c m k q u in
+        (begun (Begun.Half hi lo) p ∙ z .0, z .1, z .2)
 
     pub half-stops : (r : Reply) → Halted.Stop r ≡ haltedTo q c
-        → (stepsOf (b - n) n t here m k ≡ final r n here m k) × (actMem (halved h) (valueAt here (nibC h)) m ≡ m) × (actMarks (halved h) (valueAt here (nibC h)) k ≡ k)
+        → (stepsOf (b - n) n t here m k ≡ final r n here m k) × (actMem (halved hi lo) (valueAt here (lo / 16)) m ≡ m) × (actMarks (halved hi lo) (valueAt here (lo / 16)) k ≡ k)
     half-stops r e =
         (steps-stop b n t here m k l (stopped r) r (halves .0 ∙ halt-stops q _ f c m k r (sym e)) refl .0, halves .1, halves .2)
 
     pub half-errs : (e : Control) → Halted.Enter e ≡ haltedTo q c → length regs ≡ 16 → length marks ≡ 16 → (m′ : List ℕ) (k′ : Marks)
-        → m′ ≡ actMem (halved h) (valueAt here (nibC h)) m → k′ ≡ actMarks (halved h) (valueAt here (nibC h)) k
+        → m′ ≡ actMem (halved hi lo) (valueAt here (lo / 16)) m → k′ ≡ actMarks (halved hi lo) (valueAt here (lo / 16)) k
         → stepsOf (b - n) n t here m k ≡ stepsOf (b - (n + 1)) (n + 1) t (stateOf regs marks f e) m′ k′
     half-errs e i x y m′ k′ v w =
-        enters-on e (haltStep q (fetchedData (halfFetched h c m k) (valueAt here (nibD h)) c) f c m k) (halves .0) x y (halt-enters q _ f c m k e (sym i))
+        enters-on e (haltStep q (fetchedData (halfFetched hi lo c m k) (valueAt here (lo % 16)) c) f c m k) (halves .0) x y (halt-enters q _ f c m k e (sym i))
         ∙ rw (v ∙ halves .1, w ∙ halves .2)
 
-  pub half-goes : (h : ℕ) → g ≡ Begun.Half h → (d : Done) → Out.Go d ≡ actOut (halved h) c → (rs : List ℕ) (ks : List Bool) (m′ : List ℕ) (k′ : Marks)
+  pub half-goes : (hi lo : ℕ) → g ≡ Begun.Half hi lo → (d : Done) → Out.Go d ≡ actOut (halved hi lo) c → (rs : List ℕ) (ks : List Bool) (m′ : List ℕ) (k′ : Marks)
       → rs ≡ set regs (d .reg) (d .value) → ks ≡ set marks (d .reg) (d .mark)
-      → m′ ≡ actMem (halved h) (valueAt here (nibC h)) m → k′ ≡ actMarks (halved h) (valueAt here (nibC h)) k
+      → m′ ≡ actMem (halved hi lo) (valueAt here (lo / 16)) m → k′ ≡ actMarks (halved hi lo) (valueAt here (lo / 16)) k
       → stepsOf (b - n) n t here m k ≡ stepsOf (b - (n + 1)) (n + 1) t (stateOf rs ks (d .flags) (d .control)) m′ k′
   unfolding after halfStep
-  half-goes h e d p rs ks m′ k′ x y z w =
-      let a : Data = fetchedData (halfFetched h c m k) (valueAt here (nibD h)) c in
-      let v = act-goes (halved h) a (valueAt here (nibC h)) f c m k d p in
-      steps-go b n t here m k l (actStep (halved h) a (valueAt here (nibC h)) f c m k) d (begun (Begun.Half h) e) (v .0)
+  half-goes hi lo e d p rs ks m′ k′ x y z w =
+      let a : Data = fetchedData (halfFetched hi lo c m k) (valueAt here (lo % 16)) c in
+      let v = act-goes (halved hi lo) a (valueAt here (lo / 16)) f c m k d p in
+      steps-go b n t here m k l (actStep (halved hi lo) a (valueAt here (lo / 16)) f c m k) d (begun (Begun.Half hi lo) e) (v .0)
       ∙ rw (v .1, v .2, x, y, z, w)
 
 -- what is not refused: the tape is long enough

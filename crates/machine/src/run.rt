@@ -54,7 +54,8 @@ fn end_at(
     }
 }
 
-// The loop reads its own arrays: an array that is passed to be read at an index is copied. Most marks stay, and then their array is not written.
+// The loop reads its own arrays: an array that is passed to be read at an index is copied. Most steps leave the mark of the register that they write as it
+// was, and then its value alone is put where it lies; else both arrays are passed and returned.
 fn steps(b: usize, t: &[u8], s: State, m: &mut [u8], k: &mut [u8]) -> Ended
     requires { ⌜ b ≤ length (now t) ⌝ }
     ensures { λ r. ⌜ r ≡ stepsOf b 0 (now (t .entry)) s (now (m .entry)) (bits (now (k .entry))) .ended ⌝ }
@@ -86,11 +87,12 @@ fn steps(b: usize, t: &[u8], s: State, m: &mut [u8], k: &mut [u8]) -> Ended
                 control = e;
                 n += 1;
             }
-            Begun::Half(h) => {
-                let i = (h / 16 % 16) as usize;
-                let j = (h % 16) as usize;
+            Begun::Half(hi, lo) => {
+                let i = (lo / 16) as usize;
+                let j = (lo % 16) as usize;
                 let out = half_step(
-                    h,
+                    hi,
+                    lo,
                     regs[i],
                     marks[i],
                     regs[j],
@@ -122,9 +124,11 @@ fn steps(b: usize, t: &[u8], s: State, m: &mut [u8], k: &mut [u8]) -> Ended
                         n += 1;
                         if d.reg < 16 {
                             let z = d.reg as usize;
-                            regs = put_value(regs, d.reg, d.value);
                             let was = marks[z];
-                            if !word::same(was, d.mark) {
+                            if word::same(was, d.mark) {
+                                regs[z] = d.value;
+                            } else {
+                                regs = put_value(regs, d.reg, d.value);
                                 marks = put_mark(marks, d.reg, d.mark);
                             }
                         }

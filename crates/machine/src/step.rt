@@ -60,7 +60,7 @@ pub fn begin(t: u32, c: Control, m: &[u8], mk: &[u8]) -> Begun
             let f = instruction::fetch::first_half(ByteAddr(c.pc), m, mk);
             match f {
                 Half::Halted(h) => Begun::Halted(h),
-                Half::Bits(h) => Begun::Half(h),
+                Half::Bits(h) => Begun::Half((h / 256) as u8, (h % 256) as u8),
             }
         }
     }
@@ -148,9 +148,11 @@ fn act_step(a: Act, u: u32, mu: bool, c: Control, m: &mut [u8], mk: &mut [u8]) -
     }
 }
 
-// One instruction from its first half and the registers that the half's last two digits name: an instruction that reads fewer does not look at the others.
+// One instruction from the bytes of its first half and the registers that the second byte's digits name: an instruction that reads fewer does not look at
+// the others. The bytes come apart: put together before the kind is known, they cost each step a register of the processor.
 pub fn half_step(
-    first: u16,
+    hi: u8,
+    lo: u8,
     u: u32,
     mu: bool,
     v: u32,
@@ -161,12 +163,12 @@ pub fn half_step(
     m: &mut [u8],
     mk: &mut [u8],
 ) -> Out
-    ensures { λ r. ⌜ r ≡ actOut (halfAct first (val u mu) (val v mv) (flags tf cy) c (now (m .entry)) (bits (now (mk .entry)))) c ⌝ }
-    ensures { λ _. ⌜ now (m .exit) ≡ actMem (halfAct first (val u mu) (val v mv) (flags tf cy) c (now (m .entry)) (bits (now (mk .entry)))) (val u mu) (now (m .entry)) ⌝ }
-    ensures { λ _. ⌜ bits (now (mk .exit)) ≡ actMarks (halfAct first (val u mu) (val v mv) (flags tf cy) c (now (m .entry)) (bits (now (mk .entry)))) (val u mu) (bits (now (mk .entry))) ⌝ }
+    ensures { λ r. ⌜ r ≡ actOut (halfAct hi lo (val u mu) (val v mv) (flags tf cy) c (now (m .entry)) (bits (now (mk .entry)))) c ⌝ }
+    ensures { λ _. ⌜ now (m .exit) ≡ actMem (halfAct hi lo (val u mu) (val v mv) (flags tf cy) c (now (m .entry)) (bits (now (mk .entry)))) (val u mu) (now (m .entry)) ⌝ }
+    ensures { λ _. ⌜ bits (now (mk .exit)) ≡ actMarks (halfAct hi lo (val u mu) (val v mv) (flags tf cy) c (now (m .entry)) (bits (now (mk .entry)))) (val u mu) (bits (now (mk .entry))) ⌝ }
 {
-    let kind = isa::kind_of((first / 256) as u8);
-    let f = instruction::fetch::rest_at(kind, first, ByteAddr(c.pc), m, mk);
+    let kind = isa::kind_of(hi);
+    let f = instruction::fetch::rest_at(kind, hi as u16 * 256 + lo as u16, ByteAddr(c.pc), m, mk);
     match f {
         Fetched::Halted(h) => Out::Halted(h),
         Fetched::Run(i) => {

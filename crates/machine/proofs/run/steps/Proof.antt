@@ -2,7 +2,6 @@ use borrow.Author.Needs.{needs}
 use native.Mathlib.Omega.{arith}
 use Prim.Native.Nat.{_-_, _≤_}
 use mathlib.Core.Path.{_≡_, refl, sym, ap, _∙_}
-use borrow.Author.Tests.{not-false}
 use lib.ListN.{length, length-set}
 use lib.Seq.{set-out}
 use Rattle.marks.specs.Memory.{bits}
@@ -141,16 +140,16 @@ end-at-requires-2 : tie.Need-end-at-requires-2 Inv-loop μ-loop
 end-at-requires-2 c κs = search needs
 
 same-length-3 : tie.Need-same-length-3 Inv-loop μ-loop
-same-length-3 c = let e = c .before .before .before .before .before .before .before .before .before .before .before .before .half-step .kept .1 .1 .1 .1 .1 .1 .1 .1 .0 ∙ c .before .before .before .before .before .before .before .before .before .before .before .before .before .before .before .before .before .before .before .before .before .before .before .before .loop .inv .1 in search needs
+same-length-3 c = let e = c .before .before .before .before .before .before .before .before .before .before .before .before .half-step .kept .1 .1 .1 .1 .1 .1 .1 .1 .1 .0 ∙ c .before .before .before .before .before .before .before .before .before .before .before .before .before .before .before .before .before .before .before .before .before .before .before .before .loop .inv .1 in search needs
 
 same-length-4 : tie.Need-same-length-4 Inv-loop μ-loop
-same-length-4 c = let e = c .before .before .before .before .before .before .before .before .before .before .before .before .half-step .kept .1 .1 .1 .1 .1 .1 .1 .1 .1 .0 ∙ c .before .before .before .before .before .before .before .before .before .before .before .before .before .before .before .before .before .before .before .before .before .before .before .before .loop .inv .2 in search needs
+same-length-4 c = let e = c .before .before .before .before .before .before .before .before .before .before .before .before .half-step .kept .1 .1 .1 .1 .1 .1 .1 .1 .1 .1 .0 ∙ c .before .before .before .before .before .before .before .before .before .before .before .before .before .before .before .before .before .before .before .before .before .before .before .before .loop .inv .2 in search needs
 
 returns-2 : tie.Need-returns-2 Inv-loop μ-loop
 returns-2 c =
     let o = rw (c .before .before .before .before .before .before .before .before .before .before .before .before .before .before .before .before .before .before .before .before .before .wide .ensures) at (c .before .before .before .before .before .before .before .before .before .before .before .before .before .before .before .before .before .before .begin .ensures) in
     let h = c .before .before .before .before .before .before .before .before .before .before .before .before .half-step .ensures in
-    let z = half-stops _ _ _ _ _ _ _ _ _ (c .before .before .before .before .before .before .before .before .before .before .before .before .before .before .before .before .before .before .before .before .before .before .before .loop-test .taken) _ o _ (c .before .before .before .before .before .before .before .before .before .before .before .before .before .before .before .before .g3 .given .1) _ (sym (c .before .before .before .before .before .before .out .given .1) ∙ h .0) _ (sym (c .before .before .x3 .given .1) ∙ c .before .before .before .before .halt2 .ensures) in
+    let z = half-stops _ _ _ _ _ _ _ _ _ (c .before .before .before .before .before .before .before .before .before .before .before .before .before .before .before .before .before .before .before .before .before .before .before .loop-test .taken) _ o _ _ (c .before .before .before .before .before .before .before .before .before .before .before .before .before .before .before .before .g3 .given .1) _ (sym (c .before .before .before .before .before .before .out .given .1) ∙ h .0) _ (sym (c .before .before .x3 .given .1) ∙ c .before .before .before .before .halt2 .ensures) in
     let e = sym (z .0) ∙ c .before .before .before .before .before .before .before .before .before .before .before .before .before .before .before .before .before .before .before .before .before .before .before .before .loop .inv .3 in
     (c .end-at2 .ensures ∙ ap (λ (f : Final). f .ended) e, (h .1 .0 ∙ z .1 ∙ ap (λ (f : Final). f .mem) e, h .1 .1 ∙ z .2 ∙ ap (λ (f : Final). f .marks) e))
 
@@ -169,9 +168,9 @@ loop-again-3 c =
     let i = c .before .before .before .before .before .before .before .before .before .before .before .before .before .before .before .before .before .before .before .before .before .before .before .loop .inv in
     let h = c .before .before .before .before .before .before .before .before .before .before .before .half-step .ensures in (
       omega (arith, c .before .before .before .before .before .before .before .before .before .before .before .before .before .before .before .before .before .before .before .before .before .before .loop-test .taken),
-      c .before .before .before .before .before .before .before .before .before .before .before .half-step .kept .1 .1 .1 .1 .1 .1 .1 .1 .0 ∙ i .1,
-      c .before .before .before .before .before .before .before .before .before .before .before .half-step .kept .1 .1 .1 .1 .1 .1 .1 .1 .1 .0 ∙ i .2,
-      sym (half-errs _ _ _ _ _ _ _ _ _ (c .before .before .before .before .before .before .before .before .before .before .before .before .before .before .before .before .before .before .before .before .before .before .loop-test .taken) _ o _ (c .before .before .before .before .before .before .before .before .before .before .before .before .before .before .before .g3 .given .1) _ (sym (c .before .before .before .before .before .out .given .1) ∙ h .0) _ (sym (c .before .x4 .given .1) ∙ c .before .before .before .halt2 .ensures) (i .4) (i .5) _ _ (h .1 .0) (h .1 .1)) ∙ i .3,
+      c .before .before .before .before .before .before .before .before .before .before .before .half-step .kept .1 .1 .1 .1 .1 .1 .1 .1 .1 .0 ∙ i .1,
+      c .before .before .before .before .before .before .before .before .before .before .before .half-step .kept .1 .1 .1 .1 .1 .1 .1 .1 .1 .1 .0 ∙ i .2,
+      sym (half-errs _ _ _ _ _ _ _ _ _ (c .before .before .before .before .before .before .before .before .before .before .before .before .before .before .before .before .before .before .before .before .before .before .loop-test .taken) _ o _ _ (c .before .before .before .before .before .before .before .before .before .before .before .before .before .before .before .g3 .given .1) _ (sym (c .before .before .before .before .before .out .given .1) ∙ h .0) _ (sym (c .before .x4 .given .1) ∙ c .before .before .before .halt2 .ensures) (i .4) (i .5) _ _ (h .1 .0) (h .1 .1)) ∙ i .3,
       i .4,
       i .5,
     )
@@ -185,48 +184,54 @@ add-n-4 c = omega (arith, c .before .before .before .before .before .before .bef
 cast-z : tie.Need-cast-z Inv-loop μ-loop
 cast-z c = search needs
 
-put-value-requires : tie.Need-put-value-requires Inv-loop μ-loop
-put-value-requires c κs = search needs
-
 array-read-was : tie.Need-array-read-was Inv-loop μ-loop
 array-read-was c = search needs
 
 same-requires : tie.Need-same-requires Inv-loop μ-loop
 same-requires c κs = search needs
 
-put-mark-requires : tie.Need-put-mark-requires Inv-loop μ-loop
-put-mark-requires c κs = search needs
+mul-regs : tie.Need-mul-regs Inv-loop μ-loop
+mul-regs c = search needs
+
+array-write-regs : tie.Need-array-write-regs Inv-loop μ-loop
+array-write-regs c = search needs
 
 loop-less-4 : tie.Need-loop-less-4 Inv-loop μ-loop
-loop-less-4 c = omega (arith, c .before .before .before .before .before .before .before .before .before .before .before .before .before .before .before .before .before .before .before .before .before .before .before .before .before .before .loop-test .taken)
+loop-less-4 c = omega (arith, c .before .before .before .before .before .before .before .before .before .before .before .before .before .before .before .before .before .before .before .before .before .before .before .before .loop-test .taken)
 
 loop-again-4 : tie.Need-loop-again-4 Inv-loop μ-loop
 loop-again-4 c =
+    let o = rw (c .before .before .before .before .before .before .before .before .before .before .before .before .before .before .before .before .before .before .before .before .before .before .wide .ensures) at (c .before .before .before .before .before .before .before .before .before .before .before .before .before .before .before .before .before .before .before .begin .ensures) in
+    let i = c .before .before .before .before .before .before .before .before .before .before .before .before .before .before .before .before .before .before .before .before .before .before .before .before .before .loop .inv in
+    let h = c .before .before .before .before .before .before .before .before .before .before .before .before .before .half-step .ensures in (
+      omega (arith, c .before .before .before .before .before .before .before .before .before .before .before .before .before .before .before .before .before .before .before .before .before .before .before .before .loop-test .taken),
+      c .before .before .before .before .before .before .before .before .before .before .before .before .before .half-step .kept .1 .1 .1 .1 .1 .1 .1 .1 .1 .0 ∙ i .1,
+      c .before .before .before .before .before .before .before .before .before .before .before .before .before .half-step .kept .1 .1 .1 .1 .1 .1 .1 .1 .1 .1 .0 ∙ i .2,
+      sym (half-goes _ _ _ _ _ _ _ _ _ (c .before .before .before .before .before .before .before .before .before .before .before .before .before .before .before .before .before .before .before .before .before .before .before .before .loop-test .taken) _ o _ _ (c .before .before .before .before .before .before .before .before .before .before .before .before .before .before .before .before .before .g3 .given .1) _ (sym (c .before .before .before .before .before .before .before .out2 .given .1) ∙ h .0) _ _ _ _ (refl) (sym (mark-stays _ _ _ (sym (c .before .same .ensures) ∙ c .if2 .taken))) (h .1 .0) (h .1 .1)) ∙ i .3,
+      length-set (c .before .before .before .before .before .before .before .before .before .before .before .before .before .before .before .before .before .before .before .before .before .before .before .before .before .loop .regs) (c .before .before .before .before .before .before .before .out2 .given .0 .0 .reg) (c .before .before .before .before .before .before .before .out2 .given .0 .0 .value) ∙ i .4,
+      i .5,
+    )
+
+put-value-requires : tie.Need-put-value-requires Inv-loop μ-loop
+put-value-requires c κs = search needs
+
+put-mark-requires : tie.Need-put-mark-requires Inv-loop μ-loop
+put-mark-requires c κs = search needs
+
+loop-less-5 : tie.Need-loop-less-5 Inv-loop μ-loop
+loop-less-5 c = omega (arith, c .before .before .before .before .before .before .before .before .before .before .before .before .before .before .before .before .before .before .before .before .before .before .before .before .before .before .loop-test .taken)
+
+loop-again-5 : tie.Need-loop-again-5 Inv-loop μ-loop
+loop-again-5 c =
     let o = rw (c .before .before .before .before .before .before .before .before .before .before .before .before .before .before .before .before .before .before .before .before .before .before .before .before .wide .ensures) at (c .before .before .before .before .before .before .before .before .before .before .before .before .before .before .before .before .before .before .before .before .before .begin .ensures) in
     let i = c .before .before .before .before .before .before .before .before .before .before .before .before .before .before .before .before .before .before .before .before .before .before .before .before .before .before .before .loop .inv in
     let h = c .before .before .before .before .before .before .before .before .before .before .before .before .before .before .before .half-step .ensures in (
       omega (arith, c .before .before .before .before .before .before .before .before .before .before .before .before .before .before .before .before .before .before .before .before .before .before .before .before .before .before .loop-test .taken),
-      c .before .before .before .before .before .before .before .before .before .before .before .before .before .before .before .half-step .kept .1 .1 .1 .1 .1 .1 .1 .1 .0 ∙ i .1,
-      c .before .before .before .before .before .before .before .before .before .before .before .before .before .before .before .half-step .kept .1 .1 .1 .1 .1 .1 .1 .1 .1 .0 ∙ i .2,
-      sym (half-goes _ _ _ _ _ _ _ _ _ (c .before .before .before .before .before .before .before .before .before .before .before .before .before .before .before .before .before .before .before .before .before .before .before .before .before .before .loop-test .taken) _ o _ (c .before .before .before .before .before .before .before .before .before .before .before .before .before .before .before .before .before .before .before .g3 .given .1) _ (sym (c .before .before .before .before .before .before .before .before .before .out2 .given .1) ∙ h .0) _ _ _ _ (c .before .before .before .put-value .ensures) (c .put-mark .ensures) (h .1 .0) (h .1 .1)) ∙ i .3,
-      ap length (c .before .before .before .put-value .ensures) ∙ length-set (c .before .before .before .before .before .before .before .before .before .before .before .before .before .before .before .before .before .before .before .before .before .before .before .before .before .before .before .loop .regs) (c .before .before .before .before .before .before .before .before .before .out2 .given .0 .0 .reg) (c .before .before .before .before .before .before .before .before .before .out2 .given .0 .0 .value) ∙ i .4,
+      c .before .before .before .before .before .before .before .before .before .before .before .before .before .before .before .half-step .kept .1 .1 .1 .1 .1 .1 .1 .1 .1 .0 ∙ i .1,
+      c .before .before .before .before .before .before .before .before .before .before .before .before .before .before .before .half-step .kept .1 .1 .1 .1 .1 .1 .1 .1 .1 .1 .0 ∙ i .2,
+      sym (half-goes _ _ _ _ _ _ _ _ _ (c .before .before .before .before .before .before .before .before .before .before .before .before .before .before .before .before .before .before .before .before .before .before .before .before .before .before .loop-test .taken) _ o _ _ (c .before .before .before .before .before .before .before .before .before .before .before .before .before .before .before .before .before .before .before .g3 .given .1) _ (sym (c .before .before .before .before .before .before .before .before .before .out2 .given .1) ∙ h .0) _ _ _ _ (c .before .put-value .ensures) (c .put-mark .ensures) (h .1 .0) (h .1 .1)) ∙ i .3,
+      ap length (c .before .put-value .ensures) ∙ length-set (c .before .before .before .before .before .before .before .before .before .before .before .before .before .before .before .before .before .before .before .before .before .before .before .before .before .before .before .loop .regs) (c .before .before .before .before .before .before .before .before .before .out2 .given .0 .0 .reg) (c .before .before .before .before .before .before .before .before .before .out2 .given .0 .0 .value) ∙ i .4,
       ap length (c .put-mark .ensures) ∙ length-set (c .before .before .before .before .before .before .before .before .before .before .before .before .before .before .before .before .before .before .before .before .before .before .before .before .before .before .before .loop .marks) (c .before .before .before .before .before .before .before .before .before .out2 .given .0 .0 .reg) (c .before .before .before .before .before .before .before .before .before .out2 .given .0 .0 .mark) ∙ i .5,
-    )
-
-loop-less-5 : tie.Need-loop-less-5 Inv-loop μ-loop
-loop-less-5 c = omega (arith, c .before .before .before .before .before .before .before .before .before .before .before .before .before .before .before .before .before .before .before .before .before .before .before .before .before .loop-test .taken)
-
-loop-again-5 : tie.Need-loop-again-5 Inv-loop μ-loop
-loop-again-5 c =
-    let o = rw (c .before .before .before .before .before .before .before .before .before .before .before .before .before .before .before .before .before .before .before .before .before .before .before .wide .ensures) at (c .before .before .before .before .before .before .before .before .before .before .before .before .before .before .before .before .before .before .before .before .begin .ensures) in
-    let i = c .before .before .before .before .before .before .before .before .before .before .before .before .before .before .before .before .before .before .before .before .before .before .before .before .before .before .loop .inv in
-    let h = c .before .before .before .before .before .before .before .before .before .before .before .before .before .before .half-step .ensures in (
-      omega (arith, c .before .before .before .before .before .before .before .before .before .before .before .before .before .before .before .before .before .before .before .before .before .before .before .before .before .loop-test .taken),
-      c .before .before .before .before .before .before .before .before .before .before .before .before .before .before .half-step .kept .1 .1 .1 .1 .1 .1 .1 .1 .0 ∙ i .1,
-      c .before .before .before .before .before .before .before .before .before .before .before .before .before .before .half-step .kept .1 .1 .1 .1 .1 .1 .1 .1 .1 .0 ∙ i .2,
-      sym (half-goes _ _ _ _ _ _ _ _ _ (c .before .before .before .before .before .before .before .before .before .before .before .before .before .before .before .before .before .before .before .before .before .before .before .before .before .loop-test .taken) _ o _ (c .before .before .before .before .before .before .before .before .before .before .before .before .before .before .before .before .before .before .g3 .given .1) _ (sym (c .before .before .before .before .before .before .before .before .out2 .given .1) ∙ h .0) _ _ _ _ (c .before .before .put-value .ensures) (sym (mark-stays _ _ _ (sym (c .before .same .ensures) ∙ not-false _ (c .if2 .left)))) (h .1 .0) (h .1 .1)) ∙ i .3,
-      ap length (c .before .before .put-value .ensures) ∙ length-set (c .before .before .before .before .before .before .before .before .before .before .before .before .before .before .before .before .before .before .before .before .before .before .before .before .before .before .loop .regs) (c .before .before .before .before .before .before .before .before .out2 .given .0 .0 .reg) (c .before .before .before .before .before .before .before .before .out2 .given .0 .0 .value) ∙ i .4,
-      i .5,
     )
 
 loop-less-6 : tie.Need-loop-less-6 Inv-loop μ-loop
@@ -238,9 +243,9 @@ loop-again-6 c =
     let i = c .before .before .before .before .before .before .before .before .before .before .before .before .before .before .before .before .before .before .before .before .before .before .loop .inv in
     let h = c .before .before .before .before .before .before .before .before .before .before .half-step .ensures in (
       omega (arith, c .before .before .before .before .before .before .before .before .before .before .before .before .before .before .before .before .before .before .before .before .before .loop-test .taken),
-      c .before .before .before .before .before .before .before .before .before .before .half-step .kept .1 .1 .1 .1 .1 .1 .1 .1 .0 ∙ i .1,
-      c .before .before .before .before .before .before .before .before .before .before .half-step .kept .1 .1 .1 .1 .1 .1 .1 .1 .1 .0 ∙ i .2,
-      sym (half-goes _ _ _ _ _ _ _ _ _ (c .before .before .before .before .before .before .before .before .before .before .before .before .before .before .before .before .before .before .before .before .before .loop-test .taken) _ o _ (c .before .before .before .before .before .before .before .before .before .before .before .before .before .before .g3 .given .1) _ (sym (c .before .before .before .before .out2 .given .1) ∙ h .0) _ _ _ _ (sym (set-out _ _ _ (omega (arith, c .if1 .left, i .4)))) (sym (set-out _ _ _ (omega (arith, c .if1 .left, i .5)))) (h .1 .0) (h .1 .1)) ∙ i .3,
+      c .before .before .before .before .before .before .before .before .before .before .half-step .kept .1 .1 .1 .1 .1 .1 .1 .1 .1 .0 ∙ i .1,
+      c .before .before .before .before .before .before .before .before .before .before .half-step .kept .1 .1 .1 .1 .1 .1 .1 .1 .1 .1 .0 ∙ i .2,
+      sym (half-goes _ _ _ _ _ _ _ _ _ (c .before .before .before .before .before .before .before .before .before .before .before .before .before .before .before .before .before .before .before .before .before .loop-test .taken) _ o _ _ (c .before .before .before .before .before .before .before .before .before .before .before .before .before .before .g3 .given .1) _ (sym (c .before .before .before .before .out2 .given .1) ∙ h .0) _ _ _ _ (sym (set-out _ _ _ (omega (arith, c .if1 .left, i .4)))) (sym (set-out _ _ _ (omega (arith, c .if1 .left, i .5)))) (h .1 .0) (h .1 .1)) ∙ i .3,
       i .4,
       i .5,
     )
@@ -308,12 +313,14 @@ steps-spec =
     enum-known-out-2
     add-n-4
     cast-z
-    put-value-requires
     array-read-was
     same-requires
-    put-mark-requires
+    mul-regs
+    array-write-regs
     loop-less-4
     loop-again-4
+    put-value-requires
+    put-mark-requires
     loop-less-5
     loop-again-5
     loop-less-6
