@@ -6,7 +6,6 @@ ghost use Rattle.marks.specs.Memory.{bits};
 ghost use Rattle.instruction.specs.Parts.{flags};
 ghost use Rattle.machine.specs.Run.{stepsOf, runOf};
 ghost use Rattle.machine.specs.Parts.{stateOf};
-use crate::Begun;
 use crate::Ended;
 use crate::Halted;
 use crate::Judged;
@@ -16,8 +15,9 @@ use crate::refusals::judge_all;
 use crate::registers::put_mark;
 use crate::registers::put_value;
 use crate::step::begin;
-use crate::step::half_step;
 use crate::step::halt;
+use crate::step::low_byte;
+use crate::step::make_step;
 use cpu::Control;
 use instruction::Reply;
 use marks::Flags;
@@ -70,8 +70,23 @@ fn steps(b: usize, t: &[u8], s: State, m: &mut [u8], k: &mut [u8]) -> Ended
     let mut n: usize = 0;
     while n < b {
         let g = begin(wide(t[n]), control, m, k);
-        match g {
-            Begun::Halted(h) => {
+        let lo = low_byte(g);
+        let i = (lo / 16) as usize;
+        let j = (lo % 16) as usize;
+        let out = make_step(
+            g,
+            regs[i],
+            marks[i],
+            regs[j],
+            marks[j],
+            tf,
+            cy,
+            control,
+            m,
+            k,
+        );
+        match out {
+            Out::Halted(h) => {
                 let x = halt(h, control);
                 match x {
                     Halted::Stop(reply) => {
@@ -83,55 +98,20 @@ fn steps(b: usize, t: &[u8], s: State, m: &mut [u8], k: &mut [u8]) -> Ended
                     }
                 }
             }
-            Begun::Enter(e) => {
-                control = e;
+            Out::Go(d) => {
+                let c = d.control;
+                tf = d.flags.tf;
+                cy = d.flags.cy;
+                control = c;
                 n += 1;
-            }
-            Begun::Half(hi, lo) => {
-                let i = (lo / 16) as usize;
-                let j = (lo % 16) as usize;
-                let out = half_step(
-                    hi,
-                    lo,
-                    regs[i],
-                    marks[i],
-                    regs[j],
-                    marks[j],
-                    tf,
-                    cy,
-                    control,
-                    m,
-                    k,
-                );
-                match out {
-                    Out::Halted(h) => {
-                        let x = halt(h, control);
-                        match x {
-                            Halted::Stop(reply) => {
-                                return end_at(regs, marks, tf, cy, control, n, reply);
-                            }
-                            Halted::Enter(e) => {
-                                control = e;
-                                n += 1;
-                            }
-                        }
-                    }
-                    Out::Go(d) => {
-                        let c = d.control;
-                        tf = d.flags.tf;
-                        cy = d.flags.cy;
-                        control = c;
-                        n += 1;
-                        if d.reg < 16 {
-                            let z = d.reg as usize;
-                            let was = marks[z];
-                            if word::same(was, d.mark) {
-                                regs[z] = d.value;
-                            } else {
-                                regs = put_value(regs, d.reg, d.value);
-                                marks = put_mark(marks, d.reg, d.mark);
-                            }
-                        }
+                if d.reg < 16 {
+                    let z = d.reg as usize;
+                    let was = marks[z];
+                    if word::same(was, d.mark) {
+                        regs[z] = d.value;
+                    } else {
+                        regs = put_value(regs, d.reg, d.value);
+                        marks = put_mark(marks, d.reg, d.mark);
                     }
                 }
             }
