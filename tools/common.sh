@@ -78,3 +78,26 @@ run_program() {
         "$toolchain/bin/qemu-x86_64" "$toolchain/lib/ld-linux-x86-64.so.2" --library-path "$toolchain/lib" "$@"
     fi
 }
+
+# executed PROGRAM WORDS: how many instructions a program for x86-64 executes. An emulator makes a block of each, and writes a line of
+# its log.
+executed() {
+    if [ "$(uname -m)" != x86_64 ]; then
+        qemu-x86_64 -singlestep -d exec,nochain -D /dev/stdout "$@" | grep -c '^Trace [0-9]'
+        return
+    fi
+    command -v valgrind > /dev/null || fail "the Debian package valgrind is missing"
+    local counts
+    counts=$(mktemp)
+    valgrind --tool=callgrind --callgrind-out-file="$counts" "$@" > /dev/null 2>&1
+    sed -n 's/^totals: //p' "$counts"
+    rm "$counts"
+}
+
+# each UNITS FEW MANY PROGRAM WORDS: the instructions of a unit, of which the program has so many more with MANY behind its words than with FEW.
+each() {
+    local few many
+    few=$(executed "${@:4}" "$2") || return
+    many=$(executed "${@:4}" "$3") || return
+    awk -v n=$((many - few)) -v units="$1" 'BEGIN { printf "%.0f", n / units }'
+}

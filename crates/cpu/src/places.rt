@@ -99,6 +99,10 @@ pub fn with_sfr(n: u32, c: Control, x: u32) -> Control
 pub fn sfr_of(n: u32, c: Control) -> u32
     ensures { λ r. ⌜ r ≡ sfrOf n c ⌝ }
 {
+    // IPC, which every return reads, comes first: the compiler makes the match a table in memory, into which it first writes all fields.
+    if n == 2 {
+        return c.ipc;
+    }
     match n {
         0 => c.psw,
         1 => c.ra,

@@ -215,7 +215,14 @@ pub fn act_on(
             cpu::mfsfr(d, n, c),
             marks::mark_reg(marks::is_sfr_marked(n, tf, cy), tf, cy),
         ),
-        Instr::Mtsfr(n, _) => stop_if(mv, does(cpu::mtsfr(n, v, c), marks::mark_mtsfr(n, tf, cy))),
+        Instr::Mtsfr(n, _) => {
+            // Tested first, unlike in stop_if: else the compiler carries all special function registers over the test.
+            if mv {
+                Act::Halted(Halt::MarkedOperand)
+            } else {
+                does(cpu::mtsfr(n, v, c), marks::mark_mtsfr(n, tf, cy))
+            }
+        }
         Instr::Jr(_) => stop_if(mv, does(cpu::jr(v, c), keep(tf, cy))),
         Instr::Jrl(_) => stop_if(mv, does(cpu::jrl(v, c), keep(tf, cy))),
         Instr::Jsfr(n) => stop_if(

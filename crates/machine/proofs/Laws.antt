@@ -1,6 +1,6 @@
 -- Laws that the functions' proofs cite: the choice where nothing rare can happen, a step by its parts, and one more step of a run.
 -- Assumes nothing.
-use Prim.Native.Nat.{ℕ, suc, _+_, _-_, _/_, _%_, _^_, _<_, _≤_}
+use Prim.Native.Nat.{ℕ, suc, _+_, _-_, _*_, _/_, _%_, _^_, _<_, _≤_}
 use mathlib.Core.Path.{_≡_, refl, sym, ap, ap₂, _∙_}
 use mathlib.Core.Bool.{Bool, true, false, cond, not, Bool·beq, _&&_}
 use mathlib.Core.List.{List}
@@ -42,7 +42,7 @@ use Rattle.instruction.proofs.Laws.{fetch-by-parts}
 use Rattle.machine.specs.State.{valueAt, outOfForm}
 use Rattle.machine.specs.Step.{Stepped, stopped, completed, lowest, chosen, storedTo, markedTo, dataOf, doneOf, lineOf, entryDone, haltStep, actStep, instrStep, fetchStep, eventStep, stepOf, after}
 use Rattle.machine.specs.Run.{final, goOn, stepsOf, judge, badLength}
-use Rattle.machine.specs.Parts.{stateOf, stops, goes, outIn, memIn, marksIn, haltedTo, begunHalf, begunBy, begunOf, actOut, actMem, actMarks, fetchedAct, fetchedData, halfFetched, halfAct, halfStep}
+use Rattle.machine.specs.Parts.{stateOf, stops, goes, outIn, memIn, marksIn, haltedTo, begunHalf, begunBy, begunOf, actOut, actMem, actMarks, fetchedAct, fetchedData, halfFetched, halfAct, halfStep, lowByte, begunOut, begunMem, begunMarks}
 use Rattle.machine.specs.declared.State.{State}
 use Rattle.machine.specs.declared.Judged.{Judged}
 use Rattle.machine.specs.declared.Done.{Done}
@@ -167,7 +167,7 @@ module _ (s : State) (m : List ℕ) (k : Marks) where
   abbrev StepBy : Begun → Stepped → Type 0
   StepBy (Begun.Halted h) x = x ≡ haltStep h Data.Nowhere (s .flags) (s .control) m k
   StepBy (Begun.Enter c) x = (outIn x ≡ goes (record { control = c; flags = s .flags; reg = noReg; value = 0; mark = false })) × (memIn m x ≡ m) × (marksIn k x ≡ k)
-  StepBy (Begun.Half h) x = x ≡ halfStep h (valueAt s (nibC h)) (valueAt s (nibD h)) (s .flags) (s .control) m k
+  StepBy (Begun.Half hi lo) x = x ≡ halfStep hi lo (valueAt s (lo / 16)) (valueAt s (lo % 16)) (s .flags) (s .control) m k
 
   pub step-by-parts : (t : ℕ) → StepBy (begunOf t (s .control) m k) (stepOf t s m k)
   unfolding stepOf begunOf halfStep halfAct entryDone
@@ -175,7 +175,11 @@ module _ (s : State) (m : List ℕ) (k : Marks) where
     where
       half : (x : Half) → StepBy (begunHalf x) (fetchStep (byFirst x (pcOf (s .control)) m k) s m k)
       half (Half.Halted r) = refl
-      half (Half.Bits h) = served h
+      half (Half.Bits h) =
+          let a : h / 256 * 256 + h % 256 ≡ h = omega arith in
+          let b : h % 256 / 16 ≡ nibC h = omega arith in
+          let d : h % 256 % 16 ≡ nibD h = omega arith in
+          rw (a, b, d) (served h)
 
       go : (v : Event) → StepBy (begunBy v (s .control) m k) (eventStep v s m k)
       go (Event.Enter e) = (refl, refl, refl)
@@ -247,72 +251,79 @@ act-goes : (q : Act) (a : Data) (x : Val) (f : Flags) (c : Control) (m : List �
 act-goes (Act.Halted j) a x f c m k d e = let z : _≡_ {A = ℕ} 0 1 = cc in absurd (omega arith)
 act-goes (Act.Does u t r) a x f c m k d e = let q : doneOf c u t r ≡ d = cc in (ap goes q, refl, refl)
 
--- the same of a state in its parts, as the loop has them, by the step's start g
+-- the same of a state in its parts, as the loop has them, by the step's start g and the byte of it that names registers
 module _ (b n : ℕ) (t : List ℕ) (regs : List ℕ) (marks : List Bool) (f : Flags) (c : Control) (m : List ℕ) (k : Marks) (l : n < b) (g : Begun)
-    (o : g ≡ begunOf (getD t n 0) c m k) where
+    (o : g ≡ begunOf (getD t n 0) c m k) (lo : ℕ) (w : lo ≡ lowByte g) where
   abbrev here : State
   here = stateOf regs marks f c
 
-  -- an instruction by its first half h, with the registers that it names
-  abbrev halved : ℕ → Act
-  halved h = halfAct h (valueAt here (nibC h)) (valueAt here (nibD h)) f c m k
+  abbrev outFrom : Begun → Out
+  outFrom x = begunOut x (valueAt here (lo / 16)) (valueAt here (lo % 16)) f c m k
+
+  abbrev memFrom : Begun → List ℕ
+  memFrom x = begunMem x (valueAt here (lo / 16)) (valueAt here (lo % 16)) f c m k
+
+  abbrev marksFrom : Begun → Marks
+  marksFrom x = begunMarks x (valueAt here (lo / 16)) (valueAt here (lo % 16)) f c m k
 
   begun : (x : Begun) → g ≡ x → StepBy here m k x (stepOf (getD t n 0) here m k)
   begun x e = rw (sym o ∙ e) at (step-by-parts here m k (getD t n 0))
 
-  -- no register is written
-  enters-on : (e : Control) (x : Stepped) → stepOf (getD t n 0) here m k ≡ x → length regs ≡ 16 → length marks ≡ 16
-      → (outIn x ≡ goes (entered-to e f)) × (memIn m x ≡ m) × (marksIn k x ≡ k)
-      → stepsOf (b - n) n t here m k ≡ stepsOf (b - (n + 1)) (n + 1) t (stateOf regs marks f e) m k
+  -- the data address that a step shows where its instruction is not done
+  abbrev shown : Begun → Data
+  shown (Begun.Halted h) = Data.Nowhere
+  shown (Begun.Enter e) = Data.Nowhere
+  shown (Begun.Half hi j) = fetchedData (halfFetched hi j c m k) (valueAt here (j % 16)) c
+
+  halts : (x : Begun) → g ≡ x → (q : Halt) → Out.Halted q ≡ outFrom x
+      → (stepOf (getD t n 0) here m k ≡ haltStep q (shown x) f c m k) × (memFrom x ≡ m) × (marksFrom x ≡ k)
+  unfolding halfStep
+  halts (Begun.Halted h) e q u = let p : h ≡ q = cc in (begun (Begun.Halted h) e ∙ ap (λ (i : Halt). haltStep i Data.Nowhere f c m k) p, refl, refl)
+  halts (Begun.Enter a) e q u = let z : _≡_ {A = ℕ} 0 1 = cc in absurd (omega arith)
+  halts (Begun.Half hi j) e q u =
+      let s : lo ≡ j = w ∙ ap lowByte e in
+      let v = rw s at u in
+      let z = act-halts (halfAct hi j (valueAt here (j / 16)) (valueAt here (j % 16)) f c m k) (shown (Begun.Half hi j)) (valueAt here (j / 16)) f c m k q v in
+      rw s (begun (Begun.Half hi j) e ∙ z .0, z .1, z .2)
+
+  goes-on : (x : Begun) → g ≡ x → (d : Done) → Out.Go d ≡ outFrom x
+      → (outIn (stepOf (getD t n 0) here m k) ≡ goes d) × (memIn m (stepOf (getD t n 0) here m k) ≡ memFrom x) × (marksIn k (stepOf (getD t n 0) here m k) ≡ marksFrom x)
+  unfolding halfStep
+  goes-on (Begun.Halted h) e d u = let z : _≡_ {A = ℕ} 0 1 = cc in absurd (omega arith)
+  goes-on (Begun.Enter a) e d u =
+      let p : record { control = a; flags = f; reg = noReg; value = 0; mark = false } ≡ d = cc in
+      let z = begun (Begun.Enter a) e in
+      (z .0 ∙ ap goes p, z .1, z .2)
+  goes-on (Begun.Half hi j) e d u =
+      let s : lo ≡ j = w ∙ ap lowByte e in
+      let v = rw s at u in
+      rw (s, begun (Begun.Half hi j) e) (act-goes (halfAct hi j (valueAt here (j / 16)) (valueAt here (j % 16)) f c m k) (shown (Begun.Half hi j)) (valueAt here (j / 16)) f c m k d v)
+
+  pub out-stops : (q : Halt) → Out.Halted q ≡ outFrom g → (r : Reply) → Halted.Stop r ≡ haltedTo q c
+      → (stepsOf (b - n) n t here m k ≡ final r n here m k) × (memFrom g ≡ m) × (marksFrom g ≡ k)
+  out-stops q u r e =
+      let z = halts g refl q u in
+      (steps-stop b n t here m k l (stopped r) r (z .0 ∙ halt-stops q _ f c m k r (sym e)) refl .0, z .1, z .2)
+
+  -- a bus error writes no register
+  pub out-errs : (q : Halt) → Out.Halted q ≡ outFrom g → (e : Control) → Halted.Enter e ≡ haltedTo q c → length regs ≡ 16 → length marks ≡ 16
+      → (m′ : List ℕ) (k′ : Marks) → m′ ≡ memFrom g → k′ ≡ marksFrom g
+      → stepsOf (b - n) n t here m k ≡ stepsOf (b - (n + 1)) (n + 1) t (stateOf regs marks f e) m′ k′
   unfolding after entered-to
-  enters-on e x q i j z =
-      steps-go b n t here m k l x _ q (z .0)
-      ∙ rw (z .1, z .2, set-out regs 16 0 (omega arith), set-out marks 16 false (omega arith))
+  out-errs q u e p x y m′ k′ v v′ =
+      let z = halts g refl q u in
+      let a = halt-enters q (shown g) f c m k e (sym p) in
+      steps-go b n t here m k l (haltStep q (shown g) f c m k) _ (z .0) (a .0)
+      ∙ rw (a .1, a .2, v ∙ z .1, v′ ∙ z .2, set-out regs 16 0 (omega arith), set-out marks 16 false (omega arith))
 
-  pub begins-entry : (e : Control) → g ≡ Begun.Enter e → length regs ≡ 16 → length marks ≡ 16
-      → stepsOf (b - n) n t here m k ≡ stepsOf (b - (n + 1)) (n + 1) t (stateOf regs marks f e) m k
-  unfolding entered-to
-  begins-entry e p x y = enters-on e (stepOf (getD t n 0) here m k) refl x y (begun (Begun.Enter e) p)
-
-  pub begins-stop : (h : Halt) → g ≡ Begun.Halted h → (r : Reply) → Halted.Stop r ≡ haltedTo h c → stepsOf (b - n) n t here m k ≡ final r n here m k
-  begins-stop h e r p =
-      steps-stop b n t here m k l (stopped r) r (begun (Begun.Halted h) e ∙ halt-stops h Data.Nowhere f c m k r (sym p)) refl .0
-
-  pub begins-error : (h : Halt) → g ≡ Begun.Halted h → (e : Control) → Halted.Enter e ≡ haltedTo h c → length regs ≡ 16 → length marks ≡ 16
-      → stepsOf (b - n) n t here m k ≡ stepsOf (b - (n + 1)) (n + 1) t (stateOf regs marks f e) m k
-  begins-error h p e q x y = enters-on e (haltStep h Data.Nowhere f c m k) (begun (Begun.Halted h) p) x y (halt-enters h Data.Nowhere f c m k e (sym q))
-
-  -- a half that answers q
-  module _ (h : ℕ) (p : g ≡ Begun.Half h) (q : Halt) (u : Out.Halted q ≡ actOut (halved h) c) where
-    halves : (stepOf (getD t n 0) here m k ≡ haltStep q (fetchedData (halfFetched h c m k) (valueAt here (nibD h)) c) f c m k)
-        × (actMem (halved h) (valueAt here (nibC h)) m ≡ m) × (actMarks (halved h) (valueAt here (nibC h)) k ≡ k)
-    unfolding halfStep
-    halves =
-        let z = act-halts (halved h) (fetchedData (halfFetched h c m k) (valueAt here (nibD h)) c) (valueAt here (nibC h)) f c m k q u in
-        (begun (Begun.Half h) p ∙ z .0, z .1, z .2)
-
-    pub half-stops : (r : Reply) → Halted.Stop r ≡ haltedTo q c
-        → (stepsOf (b - n) n t here m k ≡ final r n here m k) × (actMem (halved h) (valueAt here (nibC h)) m ≡ m) × (actMarks (halved h) (valueAt here (nibC h)) k ≡ k)
-    half-stops r e =
-        (steps-stop b n t here m k l (stopped r) r (halves .0 ∙ halt-stops q _ f c m k r (sym e)) refl .0, halves .1, halves .2)
-
-    pub half-errs : (e : Control) → Halted.Enter e ≡ haltedTo q c → length regs ≡ 16 → length marks ≡ 16 → (m′ : List ℕ) (k′ : Marks)
-        → m′ ≡ actMem (halved h) (valueAt here (nibC h)) m → k′ ≡ actMarks (halved h) (valueAt here (nibC h)) k
-        → stepsOf (b - n) n t here m k ≡ stepsOf (b - (n + 1)) (n + 1) t (stateOf regs marks f e) m′ k′
-    half-errs e i x y m′ k′ v w =
-        enters-on e (haltStep q (fetchedData (halfFetched h c m k) (valueAt here (nibD h)) c) f c m k) (halves .0) x y (halt-enters q _ f c m k e (sym i))
-        ∙ rw (v ∙ halves .1, w ∙ halves .2)
-
-  pub half-goes : (h : ℕ) → g ≡ Begun.Half h → (d : Done) → Out.Go d ≡ actOut (halved h) c → (rs : List ℕ) (ks : List Bool) (m′ : List ℕ) (k′ : Marks)
-      → rs ≡ set regs (d .reg) (d .value) → ks ≡ set marks (d .reg) (d .mark)
-      → m′ ≡ actMem (halved h) (valueAt here (nibC h)) m → k′ ≡ actMarks (halved h) (valueAt here (nibC h)) k
+  pub out-goes : (d : Done) → Out.Go d ≡ outFrom g → (rs : List ℕ) (ks : List Bool) (m′ : List ℕ) (k′ : Marks)
+      → rs ≡ set regs (d .reg) (d .value) → ks ≡ set marks (d .reg) (d .mark) → m′ ≡ memFrom g → k′ ≡ marksFrom g
       → stepsOf (b - n) n t here m k ≡ stepsOf (b - (n + 1)) (n + 1) t (stateOf rs ks (d .flags) (d .control)) m′ k′
-  unfolding after halfStep
-  half-goes h e d p rs ks m′ k′ x y z w =
-      let a : Data = fetchedData (halfFetched h c m k) (valueAt here (nibD h)) c in
-      let v = act-goes (halved h) a (valueAt here (nibC h)) f c m k d p in
-      steps-go b n t here m k l (actStep (halved h) a (valueAt here (nibC h)) f c m k) d (begun (Begun.Half h) e) (v .0)
-      ∙ rw (v .1, v .2, x, y, z, w)
+  unfolding after
+  out-goes d u rs ks m′ k′ x y p q =
+      let v = goes-on g refl d u in
+      steps-go b n t here m k l (stepOf (getD t n 0) here m k) d refl (v .0)
+      ∙ rw (v .1, v .2, x, y, p, q)
 
 -- what is not refused: the tape is long enough
 passes : (u : Bool) (r : Reply) (x : Judged) → cond u (Judged.Refused r) x ≡ Judged.Good → (u ≡ false) × (x ≡ Judged.Good)

@@ -1,14 +1,14 @@
 -- Parts that only the contracts of this crate's helpers cite. None is needed to say what the machine does; proofs/Laws.antt ties them to stepOf.
 -- Assumes nothing.
-use Prim.Native.Nat.{ℕ, _/_}
-use mathlib.Core.Bool.{Bool}
+use Prim.Native.Nat.{ℕ, _+_, _*_, _/_, _%_}
+use mathlib.Core.Bool.{Bool, false}
 use mathlib.Core.List.{List}
 use Rattle.word.specs.Bits.{on}
 use Rattle.isa.specs.Codes.{kindOf}
 use Rattle.cpu.specs.Control.{pcOf}
 use Rattle.cpu.specs.Entries.{entered, passed}
 use Rattle.cpu.specs.Cycles.{entryCost}
-use Rattle.cpu.specs.Exec.{onward}
+use Rattle.cpu.specs.Exec.{noReg, onward}
 use Rattle.cpu.specs.declared.Control.{Control}
 use Rattle.cpu.specs.declared.Entry.{Entry}
 use Rattle.marks.specs.declared.Flags.{Flags}
@@ -66,7 +66,7 @@ haltedTo Halt.DataOutside c = enters Entry.DataError c (onward 2 c)
 
 abbrev pub begunHalf : Half → Begun
 begunHalf (Half.Halted h) = Begun.Halted h
-begunHalf (Half.Bits h) = Begun.Half h
+begunHalf (Half.Bits h) = Begun.Half (h / 256) (h % 256)
 
 abbrev pub begunBy : Event → Control → List ℕ → Marks → Begun
 begunBy (Event.Enter e) c m k = Begun.Enter (passed (on (c .psw) 4) (entryCost e) (entered e c))
@@ -97,12 +97,33 @@ abbrev pub fetchedData : Fetched → Val → Control → Data
 fetchedData (Fetched.Halted h) y c = Data.Nowhere
 fetchedData (Fetched.Run i) y c = dataOf (reachOf i (y .value) c)
 
--- h is the first half, x and y are the registers whose numbers stand in its bits 7:4 and 3:0
-abbrev pub halfFetched : ℕ → Control → List ℕ → Marks → Fetched
-halfFetched h c m k = restBy (kindOf (h / 256)) h (pcOf c) m k
+-- hi and lo are the first half's bytes, x and y are the registers whose numbers stand in lo's bits 7:4 and 3:0
+abbrev pub halfFetched : ℕ → ℕ → Control → List ℕ → Marks → Fetched
+halfFetched hi lo c m k = restBy (kindOf hi) (hi * 256 + lo) (pcOf c) m k
 
-unfoldable pub halfAct : ℕ → Val → Val → Flags → Control → List ℕ → Marks → Act
-halfAct h x y f c m k = fetchedAct (halfFetched h c m k) x y f c m k
+unfoldable pub halfAct : ℕ → ℕ → Val → Val → Flags → Control → List ℕ → Marks → Act
+halfAct hi lo x y f c m k = fetchedAct (halfFetched hi lo c m k) x y f c m k
 
-unfoldable pub halfStep : ℕ → Val → Val → Flags → Control → List ℕ → Marks → Stepped
-halfStep h x y f c m k = actStep (halfAct h x y f c m k) (fetchedData (halfFetched h c m k) y c) x f c m k
+unfoldable pub halfStep : ℕ → ℕ → Val → Val → Flags → Control → List ℕ → Marks → Stepped
+halfStep hi lo x y f c m k = actStep (halfAct hi lo x y f c m k) (fetchedData (halfFetched hi lo c m k) y c) x f c m k
+
+-- the rest of a step from its start on: the byte that names the registers x and y, what it answers, and what it makes of memory and marks
+abbrev pub lowByte : Begun → ℕ
+lowByte (Begun.Halted h) = 0
+lowByte (Begun.Enter e) = 0
+lowByte (Begun.Half hi lo) = lo
+
+abbrev pub begunOut : Begun → Val → Val → Flags → Control → List ℕ → Marks → Out
+begunOut (Begun.Halted h) x y f c m k = Out.Halted h
+begunOut (Begun.Enter e) x y f c m k = Out.Go (record { control = e; flags = f; reg = noReg; value = 0; mark = false })
+begunOut (Begun.Half hi lo) x y f c m k = actOut (halfAct hi lo x y f c m k) c
+
+abbrev pub begunMem : Begun → Val → Val → Flags → Control → List ℕ → Marks → List ℕ
+begunMem (Begun.Halted h) x y f c m k = m
+begunMem (Begun.Enter e) x y f c m k = m
+begunMem (Begun.Half hi lo) x y f c m k = actMem (halfAct hi lo x y f c m k) x m
+
+abbrev pub begunMarks : Begun → Val → Val → Flags → Control → List ℕ → Marks → Marks
+begunMarks (Begun.Halted h) x y f c m k = k
+begunMarks (Begun.Enter e) x y f c m k = k
+begunMarks (Begun.Half hi lo) x y f c m k = actMarks (halfAct hi lo x y f c m k) x k

@@ -30,11 +30,11 @@ pub enum Event {
     Instruction,
 }
 
-// The start of a step: its fetch is not done, it is an entry with the control part after it, or it is the instruction whose first half this is.
+// The start of a step: its fetch is not done, it is an entry with the control part after it, or it is the instruction whose first half has these bytes.
 pub enum Begun {
     Halted(Halt),
     Enter(Control),
-    Half(u16),
+    Half(u8, u8),
 }
 
 // A completed step: the control part and the flags' marks after it; a register (NO_REG: none), its value and its mark.

@@ -6,7 +6,6 @@ ghost use Rattle.marks.specs.Memory.{bits};
 ghost use Rattle.instruction.specs.Parts.{flags};
 ghost use Rattle.machine.specs.Run.{stepsOf, runOf};
 ghost use Rattle.machine.specs.Parts.{stateOf};
-use crate::Begun;
 use crate::Ended;
 use crate::Halted;
 use crate::Judged;
@@ -16,8 +15,9 @@ use crate::refusals::judge_all;
 use crate::registers::put_mark;
 use crate::registers::put_value;
 use crate::step::begin;
-use crate::step::half_step;
 use crate::step::halt;
+use crate::step::low_byte;
+use crate::step::make_step;
 use cpu::Control;
 use instruction::Reply;
 use marks::Flags;
@@ -54,7 +54,8 @@ fn end_at(
     }
 }
 
-// The loop reads its own arrays: an array that is passed to be read at an index is copied. Most marks stay, and then their array is not written.
+// The loop reads its own arrays: an array that is passed to be read at an index is copied. Most steps leave the mark of the register that they write as it
+// was, and then its value alone is put where it lies; else both arrays are passed and returned.
 fn steps(b: usize, t: &[u8], s: State, m: &mut [u8], k: &mut [u8]) -> Ended
     requires { ⌜ b ≤ length (now t) ⌝ }
     ensures { λ r. ⌜ r ≡ stepsOf b 0 (now (t .entry)) s (now (m .entry)) (bits (now (k .entry))) .ended ⌝ }
@@ -69,8 +70,23 @@ fn steps(b: usize, t: &[u8], s: State, m: &mut [u8], k: &mut [u8]) -> Ended
     let mut n: usize = 0;
     while n < b {
         let g = begin(wide(t[n]), control, m, k);
-        match g {
-            Begun::Halted(h) => {
+        let lo = low_byte(g);
+        let i = (lo / 16) as usize;
+        let j = (lo % 16) as usize;
+        let out = make_step(
+            g,
+            regs[i],
+            marks[i],
+            regs[j],
+            marks[j],
+            tf,
+            cy,
+            control,
+            m,
+            k,
+        );
+        match out {
+            Out::Halted(h) => {
                 let x = halt(h, control);
                 match x {
                     Halted::Stop(reply) => {
@@ -82,52 +98,20 @@ fn steps(b: usize, t: &[u8], s: State, m: &mut [u8], k: &mut [u8]) -> Ended
                     }
                 }
             }
-            Begun::Enter(e) => {
-                control = e;
+            Out::Go(d) => {
+                let c = d.control;
+                tf = d.flags.tf;
+                cy = d.flags.cy;
+                control = c;
                 n += 1;
-            }
-            Begun::Half(h) => {
-                let i = (h / 16 % 16) as usize;
-                let j = (h % 16) as usize;
-                let out = half_step(
-                    h,
-                    regs[i],
-                    marks[i],
-                    regs[j],
-                    marks[j],
-                    tf,
-                    cy,
-                    control,
-                    m,
-                    k,
-                );
-                match out {
-                    Out::Halted(h) => {
-                        let x = halt(h, control);
-                        match x {
-                            Halted::Stop(reply) => {
-                                return end_at(regs, marks, tf, cy, control, n, reply);
-                            }
-                            Halted::Enter(e) => {
-                                control = e;
-                                n += 1;
-                            }
-                        }
-                    }
-                    Out::Go(d) => {
-                        let c = d.control;
-                        tf = d.flags.tf;
-                        cy = d.flags.cy;
-                        control = c;
-                        n += 1;
-                        if d.reg < 16 {
-                            let z = d.reg as usize;
-                            regs = put_value(regs, d.reg, d.value);
-                            let was = marks[z];
-                            if !word::same(was, d.mark) {
-                                marks = put_mark(marks, d.reg, d.mark);
-                            }
-                        }
+                if d.reg < 16 {
+                    let z = d.reg as usize;
+                    let was = marks[z];
+                    if word::same(was, d.mark) {
+                        regs[z] = d.value;
+                    } else {
+                        regs = put_value(regs, d.reg, d.value);
+                        marks = put_mark(marks, d.reg, d.mark);
                     }
                 }
             }

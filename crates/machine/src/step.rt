@@ -7,7 +7,7 @@ ghost use Rattle.cpu.specs.Cycles.{entryCost};
 ghost use Rattle.marks.specs.Memory.{bits};
 ghost use Rattle.instruction.specs.Parts.{val, flags};
 ghost use Rattle.machine.specs.Step.{storedTo, markedTo, entryBy, doneOf};
-ghost use Rattle.machine.specs.Parts.{haltedTo, begunOf, actOut, actMem, actMarks, halfAct};
+ghost use Rattle.machine.specs.Parts.{haltedTo, begunOf, actOut, actMem, actMarks, halfAct, lowByte, begunOut, begunMem, begunMarks};
 ghost use Rattle.machine.specs.declared.Begun.{Begun};
 use crate::Begun;
 use crate::Done;
@@ -60,7 +60,7 @@ pub fn begin(t: u32, c: Control, m: &[u8], mk: &[u8]) -> Begun
             let f = instruction::fetch::first_half(ByteAddr(c.pc), m, mk);
             match f {
                 Half::Halted(h) => Begun::Halted(h),
-                Half::Bits(h) => Begun::Half(h),
+                Half::Bits(h) => Begun::Half((h / 256) as u8, (h % 256) as u8),
             }
         }
     }
@@ -148,9 +148,11 @@ fn act_step(a: Act, u: u32, mu: bool, c: Control, m: &mut [u8], mk: &mut [u8]) -
     }
 }
 
-// One instruction from its first half and the registers that the half's last two digits name: an instruction that reads fewer does not look at the others.
-pub fn half_step(
-    first: u16,
+// One instruction from the bytes of its first half and the registers that the second byte's digits name: an instruction that reads fewer does not look at
+// the others. The bytes come apart: put together before the kind is known, they cost each step a register of the processor.
+fn half_step(
+    hi: u8,
+    lo: u8,
     u: u32,
     mu: bool,
     v: u32,
@@ -161,17 +163,58 @@ pub fn half_step(
     m: &mut [u8],
     mk: &mut [u8],
 ) -> Out
-    ensures { λ r. ⌜ r ≡ actOut (halfAct first (val u mu) (val v mv) (flags tf cy) c (now (m .entry)) (bits (now (mk .entry)))) c ⌝ }
-    ensures { λ _. ⌜ now (m .exit) ≡ actMem (halfAct first (val u mu) (val v mv) (flags tf cy) c (now (m .entry)) (bits (now (mk .entry)))) (val u mu) (now (m .entry)) ⌝ }
-    ensures { λ _. ⌜ bits (now (mk .exit)) ≡ actMarks (halfAct first (val u mu) (val v mv) (flags tf cy) c (now (m .entry)) (bits (now (mk .entry)))) (val u mu) (bits (now (mk .entry))) ⌝ }
+    ensures { λ r. ⌜ r ≡ actOut (halfAct hi lo (val u mu) (val v mv) (flags tf cy) c (now (m .entry)) (bits (now (mk .entry)))) c ⌝ }
+    ensures { λ _. ⌜ now (m .exit) ≡ actMem (halfAct hi lo (val u mu) (val v mv) (flags tf cy) c (now (m .entry)) (bits (now (mk .entry)))) (val u mu) (now (m .entry)) ⌝ }
+    ensures { λ _. ⌜ bits (now (mk .exit)) ≡ actMarks (halfAct hi lo (val u mu) (val v mv) (flags tf cy) c (now (m .entry)) (bits (now (mk .entry)))) (val u mu) (bits (now (mk .entry))) ⌝ }
 {
-    let kind = isa::kind_of((first / 256) as u8);
-    let f = instruction::fetch::rest_at(kind, first, ByteAddr(c.pc), m, mk);
+    let kind = isa::kind_of(hi);
+    let f = instruction::fetch::rest_at(kind, hi as u16 * 256 + lo as u16, ByteAddr(c.pc), m, mk);
     match f {
         Fetched::Halted(h) => Out::Halted(h),
         Fetched::Run(i) => {
             let a = instruction::classes::act_on(i, u, mu, v, mv, tf, cy, c, m, mk);
             act_step(a, u, mu, c, m, mk)
         }
+    }
+}
+
+// The byte that names the registers that are read; any would do where no instruction is made.
+pub fn low_byte(g: Begun) -> u8
+    ensures { λ r. ⌜ r ≡ lowByte g ⌝ }
+{
+    match g {
+        Begun::Halted(_) => 0,
+        Begun::Enter(_) => 0,
+        Begun::Half(_, lo) => lo,
+    }
+}
+
+// The rest of a step from its start on, with the registers that the low byte names. An entry writes no register.
+pub fn make_step(
+    g: Begun,
+    u: u32,
+    mu: bool,
+    v: u32,
+    mv: bool,
+    tf: bool,
+    cy: bool,
+    c: Control,
+    m: &mut [u8],
+    mk: &mut [u8],
+) -> Out
+    ensures { λ r. ⌜ r ≡ begunOut g (val u mu) (val v mv) (flags tf cy) c (now (m .entry)) (bits (now (mk .entry))) ⌝ }
+    ensures { λ _. ⌜ now (m .exit) ≡ begunMem g (val u mu) (val v mv) (flags tf cy) c (now (m .entry)) (bits (now (mk .entry))) ⌝ }
+    ensures { λ _. ⌜ bits (now (mk .exit)) ≡ begunMarks g (val u mu) (val v mv) (flags tf cy) c (now (m .entry)) (bits (now (mk .entry))) ⌝ }
+{
+    match g {
+        Begun::Halted(h) => Out::Halted(h),
+        Begun::Enter(control) => Out::Go(Done {
+            control,
+            flags: Flags { tf, cy },
+            reg: cpu::NO_REG,
+            value: 0,
+            mark: false,
+        }),
+        Begun::Half(hi, lo) => half_step(hi, lo, u, mu, v, mv, tf, cy, c, m, mk),
     }
 }

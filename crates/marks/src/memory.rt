@@ -122,6 +122,13 @@ pub fn set_marks(w: Width, k: &mut [u8], at: ByteAddr, m: bool)
     put_marks(k, at.0, word::bytes(w), m)
 }
 
+// However many, from any place on.
+pub fn set_range(k: &mut [u8], at: ByteAddr, n: u32, m: bool)
+    ensures { λ _. ⌜ bits (now (k .exit)) ≡ putMarks n (bits (now (k .entry))) (at .0) m ⌝ }
+{
+    put_one_by_one(k, at.0 as usize, n as usize, m)
+}
+
 // ---- refusals 2 and 3, where n is memory's length
 
 pub fn is_bad_room(n: usize, k: &[u8]) -> bool

@@ -9,9 +9,6 @@ use native.Mathlib.Omega.{arith}
 use lib.ListN.{length, getD, drop, set, drop-of-length-le}
 use lib.Seq.{sets, drop-cons}
 use Rattle.text.specs.Digits.{pairOf}
-use Rattle.word.specs.declared.Width.{Width}
-use Rattle.marks.specs.Memory.{Marks, markPut, putMarks, markAll}
-use Rattle.marks.proofs.Places.{puts-more}
 use Rattle.script.specs.Line.{pairsOf}
 use Rattle.script.specs.Fault.{endsWord, lettersIn}
 use Rattle.script.specs.Reader.{Fed, byteOf, feedOf}
@@ -55,13 +52,6 @@ put-more m h a i l =
 
 pub put-none : (m h : List ℕ) (a i : ℕ) → length h / 2 ≤ i → sets m a (pairsOf (drop (2 * i) h)) ≡ m
 put-none m h a i l = rw (bytes-none h i l)
-
--- ---- marks
-
--- i bytes of k marked, which makes it j, and one byte more
-pub mark-more : (k j : Marks) (a i : ℕ) → j ≡ putMarks i k a true → markAll Width.Byte j (record { 0 = a + i }) true ≡ putMarks (i + 1) k a true
-unfolding putMarks
-mark-more k j a i e = rw (puts-more i k a true, ← e) (ap (λ (n : ℕ). markPut j n true) (omega arith))
 
 -- ---- parts
 

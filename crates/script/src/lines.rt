@@ -10,7 +10,6 @@ ghost use Rattle.script.specs.Line.{sizeOf, budgetOf, isEven, areBytes, 
 use crate::Phase;
 use text::Read;
 use word::ByteAddr;
-use word::Width;
 
 fn size_in(r: Read) -> Phase
     ensures { λ p. ⌜ p ≡ sizeOf r ⌝ }
@@ -107,17 +106,6 @@ fn put_line(r: Read, h: &[u8], n: u32, m: &mut [u8; 16384], k: &mut [u8; 2048]) 
     }
 }
 
-fn mark_bytes(a: u32, c: u32, k: &mut [u8])
-    requires { ⌜ a + c < 4294967296 ⌝ }
-    ensures { λ _. ⌜ bits (now (k .exit)) ≡ putMarks c (bits (now (k .entry))) a true ⌝ }
-{
-    let mut i: u32 = 0;
-    while i < c {
-        marks::memory::set_marks(Width::Byte, k, ByteAddr(a + i), true);
-        i += 1;
-    }
-}
-
 fn count_line(a: u32, r: Read, n: u32, m: &mut [u8; 16384], k: &mut [u8; 2048]) -> Phase
     ensures { λ p. ⌜ p ≡ countOf a r n (now (m .entry)) (bits (now (k .entry))) .phase ⌝ }
     ensures { λ _. ⌜ now (m .exit) ≡ countOf a r n (now (m .entry)) (bits (now (k .entry))) .mem ⌝ }
@@ -130,7 +118,7 @@ fn count_line(a: u32, r: Read, n: u32, m: &mut [u8; 16384], k: &mut [u8; 2048]) 
                 return Phase::Body(n);
             }
             if is_inside(a, c as usize, n) {
-                mark_bytes(a, c, k);
+                marks::memory::set_range(k, ByteAddr(a), c, true);
                 return Phase::Body(n);
             }
             Phase::Bad

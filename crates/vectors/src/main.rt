@@ -3,7 +3,7 @@ mod digests;
 mod lines;
 
 ghost use Prim.Native.Nat.{_≤_};
-use crate::digests::digest;
+use crate::digests::digest_of;
 use crate::digests::folded_line;
 use crate::digests::wide;
 use crate::lines::write_line;
@@ -73,7 +73,14 @@ fn answer_case(
     let mut steps: u64 = 0;
     let reply = abi::manik_run(record, memory, marks, tape, budget, &mut steps);
     let shown = trace_of(&mut again, second, tags, tape, steps);
-    write_line(reply, steps, record, digest(memory), digest(marks), shown);
+    write_line(
+        reply,
+        steps,
+        record,
+        digest_of(memory),
+        digest_of(marks),
+        shown,
+    );
 }
 
 // The three parts have the lengths that the case gives them.

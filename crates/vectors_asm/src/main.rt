@@ -6,26 +6,17 @@ use libc::STDIN_FILENO;
 use word::ByteAddr;
 use word::Width;
 
-fn folded(d: u64, x: u8) -> u64 {
-    (d % 4294967291 * 1000003 + x as u64) % 4294967291
-}
-
-fn digest(m: &[u8]) -> u64 {
-    let mut d: u64 = 1;
-    let mut i: usize = 0;
-    while i < m.len() {
-        d = folded(d, m[i]);
-        i += 1;
-    }
-    d
-}
-
 // The two parts have the lengths that the case gives them.
 fn answer_case(text: &mut [u8], start: usize, image: &mut [u8]) {
     io::read_full(STDIN_FILENO, text);
     io::read_full(STDIN_FILENO, image);
     let a = asm::assemble(text, start, image);
-    write_line(asm::reply(a), asm::line(a), asm::end(a), digest(image));
+    write_line(
+        asm::reply(a),
+        asm::line(a),
+        asm::end(a),
+        digest::fold_bytes(1, image),
+    );
 }
 
 fn word_at(sizes: &[u8], at: u32) -> u32 {

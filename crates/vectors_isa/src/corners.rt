@@ -1,4 +1,4 @@
-// The corner values, and the digest that numbers are folded into.
+// The corner values.
 
 // The corner values.
 const VALUES: [u32; 48] = [
@@ -55,8 +55,4 @@ const VALUES: [u32; 48] = [
 pub fn value(j: u32) -> u32 {
     let k = j as usize;
     if k < 48 { VALUES[k] } else { 0 }
-}
-
-pub fn folded(d: u64, x: u32) -> u64 {
-    (d % 4294967291 * 1000003 + x as u64) % 4294967291
 }

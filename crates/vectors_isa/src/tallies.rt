@@ -1,6 +1,5 @@
 // What is counted for each mnemonic.
 ghost use Prim.Native.Nat.{_≤_};
-use crate::corners::folded;
 
 // A mnemonic has five numbers: pairs of halves that decoded to it, their digest, instructions with bits, those without, their digest.
 pub fn place(m: usize) -> usize
@@ -11,7 +10,7 @@ pub fn place(m: usize) -> usize
 
 pub fn fold_in(t: &mut [u64; 300], at: usize, x: u32) {
     if at < 300 {
-        t[at] = folded(t[at], x);
+        t[at] = digest::fold(t[at], x);
     }
 }
 

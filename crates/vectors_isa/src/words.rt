@@ -1,5 +1,4 @@
 // The operations on words.
-use crate::corners::folded;
 use crate::corners::value;
 use word::ByteAddr;
 use word::Width;
@@ -17,8 +16,8 @@ pub fn sums(kind: u32) -> u64 {
     let mut n: u32 = 0;
     while n < 4608 {
         let r = sum(kind, value(n / 96), value(n / 2 % 48), n % 2 == 1);
-        d = folded(d, r.value);
-        d = folded(d, word::number(r.carry));
+        d = digest::fold(d, r.value);
+        d = digest::fold(d, word::number(r.carry));
         n += 1;
     }
     d
@@ -38,7 +37,7 @@ pub fn results(kind: u32) -> u64 {
     let mut d: u64 = 1;
     let mut n: u32 = 0;
     while n < 2304 {
-        d = folded(d, result(kind, value(n / 48), value(n % 48)));
+        d = digest::fold(d, result(kind, value(n / 48), value(n % 48)));
         n += 1;
     }
     d
@@ -48,7 +47,7 @@ pub fn extensions() -> u64 {
     let mut d: u64 = 1;
     let mut n: u32 = 0;
     while n < 1536 {
-        d = folded(d, word::extend(n % 32 + 1, value(n / 32)));
+        d = digest::fold(d, word::extend(n % 32 + 1, value(n / 32)));
         n += 1;
     }
     d
@@ -98,31 +97,17 @@ pub fn loads() -> u64 {
     let mut n: u32 = 0;
     while n < 48 {
         if n % 16 <= last(n / 16) {
-            d = folded(d, word::load(width(n / 16), &m, ByteAddr(n % 16)));
+            d = digest::fold(d, word::load(width(n / 16), &m, ByteAddr(n % 16)));
         }
         n += 1;
     }
     d
 }
 
-fn wide(x: u8) -> u32 {
-    x as u32
-}
-
-fn all_bytes(d: u64, m: &[u8]) -> u64 {
-    let mut e = d;
-    let mut i: usize = 0;
-    while i < m.len() {
-        e = folded(e, wide(m[i]));
-        i += 1;
-    }
-    e
-}
-
 fn stored(d: u64, x: u32, k: u32, a: u32) -> u64 {
     let mut m = bytes();
     word::store(width(k), &mut m, ByteAddr(a), x);
-    all_bytes(d, &m)
+    digest::fold_bytes(d, &m)
 }
 
 pub fn stores() -> u64 {

@@ -21,20 +21,6 @@ pub fn row_of(t: &mut [u64; 180], name: u64) -> usize
     r
 }
 
-fn folded(d: u64, x: u8) -> u64 {
-    (d % 4294967291 * 1000003 + x as u64) % 4294967291
-}
-
-fn digest(d: u64, line: &[u8]) -> u64 {
-    let mut e = d;
-    let mut i: usize = 0;
-    while i < line.len() {
-        e = folded(e, line[i]);
-        i += 1;
-    }
-    e
-}
-
 fn joined(n: u64, letter: u8) -> u64 {
     n % 72057594037927936 * 256 + letter as u64
 }
@@ -71,6 +57,6 @@ pub fn take(t: &mut [u64; 180], line: &[u8]) {
     let r = row_of(t, letters(name));
     if r < 60 {
         t[r * 3 + 1] = std::num::wrapping_add_u64(t[r * 3 + 1], 1);
-        t[r * 3 + 2] = digest(t[r * 3 + 2], line);
+        t[r * 3 + 2] = digest::fold_bytes(t[r * 3 + 2], line);
     }
 }

@@ -38,7 +38,10 @@ returns-11 : tie.Need-returns-11
 returns-11 c = search needs
 
 returns-12 : tie.Need-returns-12
-returns-12 c = sfr-past (c .before .args .n) (c .before .args .c) (rest-past 11 (c .before .args .n) (c .match .rest))
+returns-12 c = search needs
+
+returns-13 : tie.Need-returns-13
+returns-13 c = sfr-past (c .before .before .args .n) (c .before .before .args .c) (rest-past 11 (c .before .before .args .n) (c .match .rest))
 
 pub sfr-of-spec : {M : Type 1} → statement M
 sfr-of-spec =
@@ -55,4 +58,5 @@ sfr-of-spec =
     returns-9
     returns-10
     returns-11
-    returns-12)
+    returns-12
+    returns-13)

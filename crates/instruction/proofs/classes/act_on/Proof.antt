@@ -172,9 +172,6 @@ keep-requires-3 c κs = search needs
 does-requires-9 : tie.Need-does-requires-9
 does-requires-9 c κs = search needs
 
-stop-if-requires-4 : tie.Need-stop-if-requires-4
-stop-if-requires-4 c κs = search needs
-
 enum-known-i-14 : tie.Need-enum-known-i-14
 enum-known-i-14 c = search needs
 
@@ -242,31 +239,35 @@ returns-11 c = rw (c .does5 .ensures, c .before .mark-reg3 .ensures, c .before .
 
 returns-12 : tie.Need-returns-12
 unfolding actOf exec makes costOf taint blocked reachOf
-returns-12 c = rw (c .stop-if .ensures, c .before .does6 .ensures, c .before .before .mark-mtsfr .ensures, c .before .before .before .mtsfr .ensures, c .before .before .before .before .before .i12 .given .1)
+returns-12 c = rw (c .if1 .taken, c .before .before .i12 .given .1)
 
 returns-13 : tie.Need-returns-13
 unfolding actOf exec makes costOf taint blocked reachOf
-returns-13 c = rw (c .stop-if2 .ensures, c .before .does7 .ensures, c .before .before .keep .ensures, c .before .before .before .jr .ensures, c .before .before .before .before .enum-told .given .1)
+returns-13 c = rw (c .does6 .ensures, c .before .mark-mtsfr .ensures, c .before .before .mtsfr .ensures, c .before .before .before .if1 .left, c .before .before .before .before .before .i12 .given .1)
 
 returns-14 : tie.Need-returns-14
 unfolding actOf exec makes costOf taint blocked reachOf
-returns-14 c = rw (c .stop-if3 .ensures, c .before .does8 .ensures, c .before .before .keep2 .ensures, c .before .before .before .jrl .ensures, c .before .before .before .before .enum-told2 .given .1)
+returns-14 c = rw (c .stop-if .ensures, c .before .does7 .ensures, c .before .before .keep .ensures, c .before .before .before .jr .ensures, c .before .before .before .before .enum-told .given .1)
 
 returns-15 : tie.Need-returns-15
 unfolding actOf exec makes costOf taint blocked reachOf
-returns-15 c = rw (c .stop-if4 .ensures, c .before .does9 .ensures, c .before .before .keep3 .ensures, c .before .before .before .jsfr .ensures, c .before .before .before .before .is-sfr-marked2 .ensures, c .before .before .before .before .before .before .i13 .given .1)
+returns-15 c = rw (c .stop-if2 .ensures, c .before .does8 .ensures, c .before .before .keep2 .ensures, c .before .before .before .jrl .ensures, c .before .before .before .before .enum-told2 .given .1)
 
 returns-16 : tie.Need-returns-16
 unfolding actOf exec makes costOf taint blocked reachOf
-returns-16 c = rw (c .keep4 .ensures, c .before .swint .ensures, c .before .before .before .i14 .given .1)
+returns-16 c = rw (c .stop-if3 .ensures, c .before .does9 .ensures, c .before .before .keep3 .ensures, c .before .before .before .jsfr .ensures, c .before .before .before .before .is-sfr-marked2 .ensures, c .before .before .before .before .before .before .i13 .given .1)
 
 returns-17 : tie.Need-returns-17
 unfolding actOf exec makes costOf taint blocked reachOf
-returns-17 c = rw (c .short-on .ensures, c .before .before .i15 .given .1)
+returns-17 c = rw (c .keep4 .ensures, c .before .swint .ensures, c .before .before .before .i14 .given .1)
 
 returns-18 : tie.Need-returns-18
 unfolding actOf exec makes costOf taint blocked reachOf
-returns-18 c = rw (c .long-on .ensures, c .before .before .i16 .given .1)
+returns-18 c = rw (c .short-on .ensures, c .before .before .i15 .given .1)
+
+returns-19 : tie.Need-returns-19
+unfolding actOf exec makes costOf taint blocked reachOf
+returns-19 c = rw (c .long-on .ensures, c .before .before .i16 .given .1)
 
 pub act-on-spec : {M : Type 1} → statement M
 act-on-spec =
@@ -311,23 +312,22 @@ act-on-spec =
     mtsfr-requires
     mark-mtsfr-requires
     does-requires-6
-    stop-if-requires
     enum-told
     jr-requires
     keep-requires
     does-requires-7
-    stop-if-requires-2
+    stop-if-requires
     enum-told-2
     jrl-requires
     keep-requires-2
     does-requires-8
-    stop-if-requires-3
+    stop-if-requires-2
     enum-known-i-13
     is-sfr-marked-requires-2
     jsfr-requires
     keep-requires-3
     does-requires-9
-    stop-if-requires-4
+    stop-if-requires-3
     enum-known-i-14
     swint-requires
     keep-requires-4
@@ -352,4 +352,5 @@ act-on-spec =
     returns-15
     returns-16
     returns-17
-    returns-18)
+    returns-18
+    returns-19)

@@ -24,6 +24,12 @@ enum-known-f c = search needs
 enum-known-f-2 : tie.Need-enum-known-f-2
 enum-known-f-2 c = search needs
 
+cast-t14 : tie.Need-cast-t14
+cast-t14 c = search needs
+
+cast-t16 : tie.Need-cast-t16
+cast-t16 c = search needs
+
 returns : tie.Need-returns
 unfolding begunOf
 returns c = rw (c .enter .ensures, ← (c .before .before .before .before .choose .ensures), c .before .before .e .given .1)
@@ -47,6 +53,8 @@ begin-spec =
     first-half-requires
     enum-known-f
     enum-known-f-2
+    cast-t14
+    cast-t16
     returns
     returns-2
     returns-3)

@@ -4,11 +4,14 @@ use borrow.Author.Needs.{needs}
 use Rattle.machine.proofs.step.half_step.Statement.{statement}
 use Rattle.machine.proofs.step.half_step.Tie as tie
 
-cast-kind-of : tie.Need-cast-kind-of
-cast-kind-of c = search needs
-
 kind-of-requires : tie.Need-kind-of-requires
 kind-of-requires c κs = search needs
+
+mul-rest-at : tie.Need-mul-rest-at
+mul-rest-at c = search needs
+
+add-rest-at : tie.Need-add-rest-at
+add-rest-at c = search needs
 
 rest-at-requires : tie.Need-rest-at-requires
 rest-at-requires c κs = search needs
@@ -51,8 +54,9 @@ pub half-step-spec : {M : Type 1} → statement M
 half-step-spec =
     tie.close
     (tie.spec
-    cast-kind-of
     kind-of-requires
+    mul-rest-at
+    add-rest-at
     rest-at-requires
     enum-known-f
     enum-known-f-2

@@ -1,10 +1,7 @@
-use mathlib.Core.Path.{_∙_}
-use Prim.Native.Nat.{_+_}
-use native.Mathlib.Omega.{arith}
 use Rattle.marks.specs.Memory.{putMarks}
 use Rattle.script.specs.Line.{countOf}
-use borrow.Author.Tests.{ne-eqb, leb-true}
-use mathlib.Core.Path.{refl, sym}
+use borrow.Author.Tests.{ne-eqb}
+use mathlib.Core.Path.{refl}
 use borrow.Author.Needs.{needs}
 use Rattle.script.proofs.lines.count_line.Statement.{statement}
 use Rattle.script.proofs.lines.count_line.Tie as tie
@@ -25,12 +22,12 @@ cast-is-inside c = search needs
 is-inside-requires : tie.Need-is-inside-requires
 is-inside-requires c κs = search needs
 
-mark-bytes-requires : tie.Need-mark-bytes-requires
-mark-bytes-requires c κs = omega (arith, leb-true (c .before .before .before .before .before .before .before .args .a + c .before .before .before .before .before .r .given .0 .0) (c .before .before .before .before .before .before .before .args .n) (sym (c .before .before .is-inside .ensures) ∙ c .before .if2 .taken))
+set-range-requires : tie.Need-set-range-requires
+set-range-requires c κs = search needs
 
 returns-2 : tie.Need-returns-2
 unfolding countOf
-returns-2 c = rw (c .before .before .before .before .before .before .r .given .1, ne-eqb _ _ (c .before .before .before .before .if1 .left), ← (c .before .before .before .is-inside .ensures), c .before .before .if2 .taken) (refl, (refl, c .mark-bytes .ensures))
+returns-2 c = rw (c .before .before .before .before .before .before .r .given .1, ne-eqb _ _ (c .before .before .before .before .if1 .left), ← (c .before .before .before .is-inside .ensures), c .before .before .if2 .taken) (refl, (refl, c .set-range .ensures))
 
 returns-3 : tie.Need-returns-3
 unfolding countOf
@@ -49,7 +46,7 @@ count-line-spec =
     returns
     cast-is-inside
     is-inside-requires
-    mark-bytes-requires
+    set-range-requires
     returns-2
     returns-3
     returns-4)

@@ -21,8 +21,8 @@ value-requires c κs = search needs
 extend-requires : tie.Need-extend-requires Inv-loop μ-loop
 extend-requires c κs = search needs
 
-folded-requires : tie.Need-folded-requires Inv-loop μ-loop
-folded-requires c κs = search needs
+fold-requires : tie.Need-fold-requires Inv-loop μ-loop
+fold-requires c κs = search needs
 
 add-n : tie.Need-add-n Inv-loop μ-loop
 add-n c = search needs
@@ -46,7 +46,7 @@ extensions-spec =
     add-extend
     value-requires
     extend-requires
-    folded-requires
+    fold-requires
     add-n
     loop-less
     loop-again

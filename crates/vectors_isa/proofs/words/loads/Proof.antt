@@ -27,8 +27,8 @@ slice-aggregate-load c = search needs
 load-requires : tie.Need-load-requires Inv-loop μ-loop
 load-requires c κs = search needs
 
-folded-requires : tie.Need-folded-requires Inv-loop μ-loop
-folded-requires c κs = search needs
+fold-requires : tie.Need-fold-requires Inv-loop μ-loop
+fold-requires c κs = search needs
 
 add-n : tie.Need-add-n Inv-loop μ-loop
 add-n c = search needs
@@ -54,7 +54,7 @@ loads-spec =
     width-requires
     slice-aggregate-load
     load-requires
-    folded-requires
+    fold-requires
     add-n
     loop-less
     loop-again

@@ -21,8 +21,8 @@ value-requires-2 c κs = search needs
 result-requires : tie.Need-result-requires Inv-loop μ-loop
 result-requires c κs = search needs
 
-folded-requires : tie.Need-folded-requires Inv-loop μ-loop
-folded-requires c κs = search needs
+fold-requires : tie.Need-fold-requires Inv-loop μ-loop
+fold-requires c κs = search needs
 
 add-n : tie.Need-add-n Inv-loop μ-loop
 add-n c = search needs
@@ -46,7 +46,7 @@ results-spec =
     value-requires
     value-requires-2
     result-requires
-    folded-requires
+    fold-requires
     add-n
     loop-less
     loop-again

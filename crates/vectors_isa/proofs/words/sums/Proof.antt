@@ -21,14 +21,14 @@ value-requires-2 c κs = search needs
 sum-requires : tie.Need-sum-requires Inv-loop μ-loop
 sum-requires c κs = search needs
 
-folded-requires : tie.Need-folded-requires Inv-loop μ-loop
-folded-requires c κs = search needs
+fold-requires : tie.Need-fold-requires Inv-loop μ-loop
+fold-requires c κs = search needs
 
 number-requires : tie.Need-number-requires Inv-loop μ-loop
 number-requires c κs = search needs
 
-folded-requires-2 : tie.Need-folded-requires-2 Inv-loop μ-loop
-folded-requires-2 c κs = search needs
+fold-requires-2 : tie.Need-fold-requires-2 Inv-loop μ-loop
+fold-requires-2 c κs = search needs
 
 add-n : tie.Need-add-n Inv-loop μ-loop
 add-n c = search needs
@@ -52,9 +52,9 @@ sums-spec =
     value-requires
     value-requires-2
     sum-requires
-    folded-requires
+    fold-requires
     number-requires
-    folded-requires-2
+    fold-requires-2
     add-n
     loop-less
     loop-again
