@@ -1,4 +1,6 @@
 // The static library: one call runs the machine on a state that lies in a record of 160 bytes. include/manik.h is its C header.
+#![tactic(auto)]
+
 ghost use Rattle.std.specs.Prelude.{◌≡◌, ◌&&◌, ℕ, ◌+◌, ◌*◌, ◌≤◌, length};
 ghost use Rattle.std.proofs.lemmas.List.Edits.{sets};
 ghost use Rattle.marks.specs.Memory.{bits};

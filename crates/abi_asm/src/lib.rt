@@ -1,5 +1,7 @@
 // The static library's third part: the assembler. It is an archive of its own, as the listing's is.
 // include/manik.h is its C header.
+#![tactic(auto)]
+
 ghost use Rattle.std.specs.Prelude.{◌≡◌};
 ghost use Rattle.asm.specs.Assemble.{reply_of, line_of, end_of, assembled_of};
 

@@ -1,5 +1,7 @@
 // The static library's second part: the listing of an image. It is an archive of its own, since the decoder is laid into the machine's
 // loop only where nothing else in the archive calls it. include/manik.h is its C header.
+#![tactic(auto)]
+
 ghost use Rattle.std.specs.Prelude.{◌≡◌};
 ghost use Rattle.listing.specs.Lent.{number_of, length_of, listed_of};
 

@@ -1,5 +1,7 @@
 // The static library's look at a step: the line that the next step would show, without making it. It is an archive of its own, since the decoder
 // is laid into the machine's loop only where nothing else in the archive calls it. include/manik.h is its C header.
+#![tactic(auto)]
+
 ghost use Rattle.std.specs.Prelude.{◌≡◌, [], ◌∷◌};
 ghost use Rattle.marks.specs.Memory.{bits};
 ghost use Rattle.abi_show.specs.Show.{letter_of, detail_of, is_at, address_of, placed, written_to, look_of, show_of};

@@ -1,4 +1,6 @@
 // The assembler: what its parts are called.
+#![tactic(auto)]
+
 mod answers;
 mod labels;
 mod lines;
@@ -8,7 +10,7 @@ pub use answers::{end, line, number, reply};
 pub use passes::assemble;
 
 // The numbers 29 to 36 of document 02, ticket 4, in their order.
-#[derive(Drop)]
+#[derive(Clone, Copy)]
 pub enum Refusal {
     Start,
     Form,
@@ -20,21 +22,21 @@ pub enum Refusal {
     Room,
 }
 
-#[derive(Drop)]
+#[derive(Clone, Copy)]
 pub enum Checked {
     Fine,
     Not(Refusal),
 }
 
 // The number of lines and the address after the last byte, or what is refused and the line.
-#[derive(Drop)]
+#[derive(Clone, Copy)]
 pub enum Assembled {
     Done(usize, usize),
     Refused(Refusal, usize),
 }
 
 // How many labels are set, and whether every line is of known form.
-#[derive(Drop)]
+#[derive(Clone, Copy)]
 pub struct Collected {
     pub count: usize,
     pub known: bool,

@@ -1,1 +1,2 @@
 // Definitions and theorems; nothing runs here.
+#![tactic(auto)]

@@ -1,4 +1,6 @@
 // The core without marks: its control part, entries, the timer, and what each instruction does.
+#![tactic(auto)]
+
 mod costs;
 mod effects;
 mod entries;
@@ -19,7 +21,7 @@ pub use values::{
     alu, compare, compare_imm, conditional, conditional_imm, immediate, loaded, shift_imm, stored,
 };
 
-#[derive(Drop)]
+#[derive(Clone, Copy)]
 pub struct Control {
     pub pc: u32,
     pub psw: u32,
@@ -39,7 +41,7 @@ pub struct Control {
 
 // What an instruction does to the values: the control part after it, a register (NO_REG: none) and its value, whether it wrote TIMER, and its cost in
 // cycles.
-#[derive(Drop)]
+#[derive(Clone, Copy)]
 pub struct Effect {
     pub control: Control,
     pub reg: u32,
@@ -49,14 +51,14 @@ pub struct Effect {
 }
 
 // The registers that an instruction reads.
-#[derive(Drop)]
+#[derive(Clone, Copy)]
 pub struct Sources {
     pub first: u32,
     pub second: u32,
 }
 
 // An entry: a swint's four bits, the hit that a debug entry shows, the line of an external one, and bus errors of a fetch and of data.
-#[derive(Drop)]
+#[derive(Clone, Copy)]
 pub enum Entry {
     Nothing,
     Swint(u32),

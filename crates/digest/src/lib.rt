@@ -1,4 +1,6 @@
 // The digest that programs of the gate write of numbers and of bytes: docs/VECTORS.md, docs/CORPUS.md.
+#![tactic(auto)]
+
 ghost use Rattle.std.specs.Prelude.{◌≡◌};
 ghost use Rattle.digest.specs.Digest.{folded, digest_of};
 

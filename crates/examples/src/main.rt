@@ -1,4 +1,6 @@
 // Runs the inputs of examples/ one after the other (docs/EXAMPLES.md), each fed in parts of 7 bytes, and writes each one's name and answer.
+#![tactic(auto)]
+
 use libc::{STDIN_FILENO, STDOUT_FILENO};
 use script::Reader;
 use text::Read;

@@ -8,7 +8,7 @@ use crate::cycle::is_adding;
 use crate::leaves::leaf;
 
 // Whether an operand is wanted next, whether a minus may stand before it, how many parentheses are open, and the place; or no sum.
-#[derive(Drop)]
+#[derive(Clone, Copy)]
 enum Turn {
     On(bool, bool, usize, usize),
     No,

@@ -1,4 +1,6 @@
 // Expressions of the assembler: values, and the form.
+#![tactic(auto)]
+
 mod cycle;
 mod form;
 mod labels;
@@ -9,21 +11,21 @@ pub use cycle::evaluate;
 pub use form::is_sum;
 pub use labels::{find, label};
 
-#[derive(Drop)]
+#[derive(Clone, Copy)]
 pub enum Value {
     Is(i32),
     Large,
     Unknown,
 }
 
-#[derive(Drop)]
+#[derive(Clone, Copy)]
 pub enum Fault {
     Form,
     Deep,
 }
 
 // A value and how many bytes were read, or what is wrong with the form first.
-#[derive(Drop)]
+#[derive(Clone, Copy)]
 pub enum Read {
     Got(Value, usize),
     Not(Fault),

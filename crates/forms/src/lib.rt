@@ -1,4 +1,6 @@
 // The lines of an assembler text: fields, mnemonics, operands, and what a line says.
+#![tactic(auto)]
+
 mod fields;
 mod form;
 mod says;
@@ -11,7 +13,7 @@ pub use says::{bits_at, bits_of};
 pub use shapes::{shape_of, table};
 
 // What a mnemonic stands for.
-#[derive(Drop)]
+#[derive(Clone, Copy)]
 pub enum What {
     Code(Kind),
     Half,
@@ -19,7 +21,7 @@ pub enum What {
 }
 
 // What an operand field holds; `Never` is that of no line.
-#[derive(Drop)]
+#[derive(Clone, Copy)]
 pub enum Sort {
     Nothing,
     Never,
@@ -30,7 +32,7 @@ pub enum Sort {
 }
 
 // The bytes that a line takes, and its operands.
-#[derive(Drop)]
+#[derive(Clone, Copy)]
 pub struct Shape {
     pub size: u32,
     pub first: Sort,
@@ -40,7 +42,7 @@ pub struct Shape {
 
 // Field n of a line stands from `fromn` to `ton`, and the first from 0 on: its own label, its mnemonic, three operands. Fields that it lacks
 // are empty, at its end.
-#[derive(Drop)]
+#[derive(Clone, Copy)]
 pub struct Cut {
     pub to0: usize,
     pub from1: usize,

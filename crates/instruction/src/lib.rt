@@ -1,4 +1,6 @@
 // One instruction with marks: its fetch, with the order of its tests, and what it does or why it is not done.
+#![tactic(auto)]
+
 pub mod classes;
 pub mod fetch;
 
@@ -10,7 +12,7 @@ use isa::Instr;
 use marks::Taint;
 use word::{ByteAddr, Width};
 
-#[derive(Drop)]
+#[derive(Clone, Copy)]
 pub enum Reply {
     MemoryLength,
     MarkLength,
@@ -25,7 +27,7 @@ pub enum Reply {
 }
 
 // Why an instruction is not done, in the order of the tests. An access outside memory is a bus error; the others stop the run.
-#[derive(Drop)]
+#[derive(Clone, Copy)]
 pub enum Halt {
     FetchOutside,
     FetchMarked,
@@ -34,21 +36,21 @@ pub enum Halt {
     DataOutside,
 }
 
-#[derive(Drop)]
+#[derive(Clone, Copy)]
 pub enum Fetched {
     Halted(Halt),
     Run(Instr),
 }
 
 // Half an instruction, or why it cannot be read.
-#[derive(Drop)]
+#[derive(Clone, Copy)]
 pub enum Half {
     Halted(Halt),
     Bits(u16),
 }
 
 // What an instruction reaches beside the registers: memory, or the entry of a swint.
-#[derive(Drop)]
+#[derive(Clone, Copy)]
 pub enum Reach {
     Nowhere,
     Reads(Width, ByteAddr),
@@ -57,7 +59,7 @@ pub enum Reach {
 }
 
 // One instruction: it is not done, or has an effect, marks, and a place that it reaches.
-#[derive(Drop)]
+#[derive(Clone, Copy)]
 pub enum Act {
     Halted(Halt),
     Does(Effect, Taint, Reach),

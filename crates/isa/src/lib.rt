@@ -1,4 +1,6 @@
 // The instruction set: instructions by value, the decoder and the encoder.
+#![tactic(auto)]
+
 mod decoder;
 mod encoder;
 mod kinds;
@@ -9,7 +11,7 @@ pub use kinds::kind_of;
 use word::{HalfDisp, Width};
 
 // 0x2?: sub and add set CY; the shifts are by a register.
-#[derive(Drop)]
+#[derive(Clone, Copy)]
 pub enum AluOp {
     Sub,
     Add,
@@ -29,7 +31,7 @@ pub enum AluOp {
     Mult,
 }
 
-#[derive(Drop)]
+#[derive(Clone, Copy)]
 pub enum ShiftOp {
     Lsl,
     Lsr,
@@ -37,7 +39,7 @@ pub enum ShiftOp {
     Mult,
 }
 
-#[derive(Drop)]
+#[derive(Clone, Copy)]
 pub enum CmpOp {
     Eq,
     Hs,
@@ -46,35 +48,35 @@ pub enum CmpOp {
     Gt,
 }
 
-#[derive(Drop)]
+#[derive(Clone, Copy)]
 pub enum CmpImmOp {
     Eq,
     Lt,
     Gt,
 }
 
-#[derive(Drop)]
+#[derive(Clone, Copy)]
 pub enum CondOp {
     Mov,
     Sub,
     Add,
 }
 
-#[derive(Drop)]
+#[derive(Clone, Copy)]
 pub enum ImmOp {
     And,
     Add,
     Mov,
 }
 
-#[derive(Drop)]
+#[derive(Clone, Copy)]
 pub enum ShortOp {
     Sjf,
     Sjt,
     Sj,
 }
 
-#[derive(Drop)]
+#[derive(Clone, Copy)]
 pub enum LongOp {
     Jf,
     Jt,
@@ -83,7 +85,7 @@ pub enum LongOp {
 }
 
 // An instruction with its operands, in the order of the guide's syntax. Signed operands are modulo 2^32.
-#[derive(Drop)]
+#[derive(Clone, Copy)]
 pub enum Instr {
     // Rd, Rb
     Alu(AluOp, u32, u32),
@@ -119,7 +121,7 @@ pub enum Instr {
 }
 
 // What a first byte says.
-#[derive(Drop)]
+#[derive(Clone, Copy)]
 pub enum Kind {
     Nothing,
     Alu(AluOp),
@@ -143,14 +145,14 @@ pub enum Kind {
 }
 
 // Two bytes, four bytes, or no instruction.
-#[derive(Drop)]
+#[derive(Clone, Copy)]
 pub enum Decoded {
     Short(Instr),
     Long(Instr),
     Nothing,
 }
 
-#[derive(Drop)]
+#[derive(Clone, Copy)]
 pub enum Encoded {
     Half(u16),
     Pair(u16, u16),

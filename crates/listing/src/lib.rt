@@ -1,4 +1,6 @@
 // The listing of an image: one line for each instruction, in document 01's written form.
+#![tactic(auto)]
+
 mod lines;
 mod names;
 mod ranges;
@@ -9,7 +11,7 @@ pub use ranges::{length, list, number};
 use word::ByteAddr;
 
 // An operand as it is written.
-#[derive(Drop)]
+#[derive(Clone, Copy)]
 pub enum Operand {
     // r0 to r15
     Reg(u32),
@@ -21,7 +23,7 @@ pub enum Operand {
     Bits(u16),
 }
 
-#[derive(Drop)]
+#[derive(Clone, Copy)]
 pub enum Row {
     One(Operand),
     Two(Operand, Operand),
@@ -29,7 +31,7 @@ pub enum Row {
 }
 
 // Whether it has four bytes, the place of its mnemonic, its operands.
-#[derive(Drop)]
+#[derive(Clone, Copy)]
 pub struct Shown {
     pub long: bool,
     pub place: u32,
@@ -37,7 +39,7 @@ pub struct Shown {
 }
 
 // What stands at an address: both halves there, and what is shown of them.
-#[derive(Drop)]
+#[derive(Clone, Copy)]
 pub struct Entry {
     pub at: ByteAddr,
     pub first: u16,
@@ -46,14 +48,14 @@ pub struct Entry {
 }
 
 // One line: its bytes from the first on, how many they are, and the address after it.
-#[derive(Drop)]
+#[derive(Clone, Copy)]
 pub struct Line {
     pub text: [u8; 48],
     pub length: usize,
     pub next: ByteAddr,
 }
 
-#[derive(Drop)]
+#[derive(Clone, Copy)]
 pub enum Listed {
     // so many bytes
     Done(usize),

@@ -1,4 +1,6 @@
 // The machine: the choice of a step, one step, refusals, and a run under a budget.
+#![tactic(auto)]
+
 mod choice;
 mod refusals;
 mod registers;
@@ -15,7 +17,7 @@ pub use step::entry_of;
 use word::ByteAddr;
 
 // Sixteen registers, each with a mark; the marks of TF and CY; and what is never marked.
-#[derive(Drop)]
+#[derive(Clone, Copy)]
 pub struct State {
     pub regs: [u32; 16],
     pub marks: [bool; 16],
@@ -24,14 +26,14 @@ pub struct State {
 }
 
 // What a step does: an entry, or one instruction.
-#[derive(Drop)]
+#[derive(Clone, Copy)]
 pub enum Event {
     Enter(Entry),
     Instruction,
 }
 
 // The start of a step: its fetch is not done, it is an entry with the control part after it, or it is the instruction whose first half has these bytes.
-#[derive(Drop)]
+#[derive(Clone, Copy)]
 pub enum Begun {
     Halted(Halt),
     Enter(Control),
@@ -39,7 +41,7 @@ pub enum Begun {
 }
 
 // A completed step: the control part and the flags' marks after it; a register (NO_REG: none), its value and its mark.
-#[derive(Drop)]
+#[derive(Clone, Copy)]
 pub struct Done {
     pub control: Control,
     pub flags: Flags,
@@ -49,40 +51,40 @@ pub struct Done {
 }
 
 // What comes of an instruction that is not done: a stop, or a bus error with the control part after it.
-#[derive(Drop)]
+#[derive(Clone, Copy)]
 pub enum Halted {
     Stop(Reply),
     Enter(Control),
 }
 
-#[derive(Drop)]
+#[derive(Clone, Copy)]
 pub enum Out {
     Halted(Halt),
     Go(Done),
 }
 
 // The aligned address of a load or store.
-#[derive(Drop)]
+#[derive(Clone, Copy)]
 pub enum Data {
     Nowhere,
     At(ByteAddr),
 }
 
 // What a completed step shows: the program counter before it, the entry that it made, and the data address that it reached.
-#[derive(Drop)]
+#[derive(Clone, Copy)]
 pub struct Line {
     pub pc: ByteAddr,
     pub entry: Entry,
     pub address: Data,
 }
 
-#[derive(Drop)]
+#[derive(Clone, Copy)]
 pub enum Judged {
     Refused(Reply),
     Good,
 }
 
-#[derive(Drop)]
+#[derive(Clone, Copy)]
 pub struct Ended {
     pub state: State,
     pub steps: usize,

@@ -1,4 +1,6 @@
 // The small program of document 01: standard input to standard output, in parts of 4,096 bytes; why an input is bad goes to standard error.
+#![tactic(auto)]
+
 mod explain;
 
 use explain::explain;
@@ -6,7 +8,7 @@ use libc::{STDIN_FILENO, STDOUT_FILENO};
 use script::{Phase, Reader};
 
 // After a part: more may come, the answer is fixed, or the input cannot be read.
-#[derive(Drop)]
+#[derive(Clone, Copy)]
 enum Turn {
     More(Reader),
     Ended(Reader),

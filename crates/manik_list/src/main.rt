@@ -1,4 +1,6 @@
 // The program behind tools/manik-list: the listing of the image in a file, by the words IMAGE or IMAGE START END.
+#![tactic(auto)]
+
 mod image;
 mod messages;
 mod numbers;
@@ -13,14 +15,14 @@ use crate::ranges::{Why, reason};
 use text::Read;
 
 // What the words ask for.
-#[derive(Drop)]
+#[derive(Clone, Copy)]
 enum Call {
     Whole,
     Range(u32, u32),
     Bad,
 }
 
-#[derive(Drop)]
+#[derive(Clone, Copy)]
 struct Range {
     start: usize,
     end: usize,

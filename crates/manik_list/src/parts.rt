@@ -7,7 +7,7 @@ use libc::STDOUT_FILENO;
 use word::ByteAddr;
 
 // So many bytes, and the address after their last line.
-#[derive(Drop)]
+#[derive(Clone, Copy)]
 struct Part {
     bytes: usize,
     next: u32,

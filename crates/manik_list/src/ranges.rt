@@ -3,7 +3,7 @@ ghost use Rattle.std.specs.Prelude.{◌≡◌};
 ghost use Rattle.listing.specs.Lent.{is_out_of};
 ghost use Rattle.manik_list.specs.Ranges.{why_of, is_refused};
 
-#[derive(Drop)]
+#[derive(Clone, Copy)]
 pub enum Why {
     Fine,
     TooLong,

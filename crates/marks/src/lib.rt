@@ -1,4 +1,6 @@
 // Marks: which operands stop an instruction, which results become marked, and the marks of memory.
+#![tactic(auto)]
+
 pub mod memory;
 
 ghost use Rattle.std.specs.Prelude.{◌≡◌, false, cond, ◌||◌};
@@ -8,14 +10,14 @@ ghost use Rattle.marks.specs.Marks.{alu_mark, alu_flags, cond_mark, imm_mark, sf
 use isa::{AluOp, CondOp, ImmOp, LongOp, ShortOp};
 
 // The marks of TF and CY.
-#[derive(Drop)]
+#[derive(Clone, Copy)]
 pub struct Flags {
     pub tf: bool,
     pub cy: bool,
 }
 
 // The mark of the register that an instruction writes, and the flags' marks after it.
-#[derive(Drop)]
+#[derive(Clone, Copy)]
 pub struct Taint {
     pub reg: bool,
     pub flags: Flags,

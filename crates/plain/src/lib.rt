@@ -1,1 +1,2 @@
 // The machine without marks is a definition; nothing runs here.
+#![tactic(auto)]

@@ -1,1 +1,2 @@
 // Theorems: a listing assembles to the bytes that it lists.
+#![tactic(auto)]

@@ -1,4 +1,6 @@
 // The small program's language: an input taken in parts of any size.
+#![tactic(auto)]
+
 mod faults;
 mod feeding;
 mod lines;
@@ -9,7 +11,7 @@ pub use feeding::{feed, start};
 pub use rooms::zeros;
 
 // Where in an input the reader is: before `mem`, after it, after `run` (memory's size, and the budget), or past a bad line.
-#[derive(Drop)]
+#[derive(Clone, Copy)]
 pub enum Phase {
     First,
     Body(u32),
@@ -20,7 +22,7 @@ pub enum Phase {
 // Why an input is bad: nothing is wrong; the first line is not `mem`; a later one is none of the other three; something stands after `run`; a decimal that
 // is none, starts with zero or is above its limit; an address that is none; bytes that are none, or lack a digit; a place outside memory; the last
 // line is unfinished; the input ends before `run`.
-#[derive(Drop)]
+#[derive(Clone, Copy)]
 pub enum Reason {
     Nothing,
     First,
@@ -38,7 +40,7 @@ pub enum Reason {
 }
 
 // A reason, the place in the line, from 1, and the byte there (10 at the line's end); no place and no byte, 0, where the input is at its end.
-#[derive(Drop)]
+#[derive(Clone, Copy)]
 pub struct Fault {
     pub reason: Reason,
     pub place: usize,
@@ -46,7 +48,7 @@ pub struct Fault {
 }
 
 // The phase, the number of the unfinished line or of the bad one, how many bytes of the unfinished line are kept, and what is wrong with the bad one.
-#[derive(Drop)]
+#[derive(Clone, Copy)]
 pub struct Reader {
     pub phase: Phase,
     pub number: u64,

@@ -1,4 +1,6 @@
 // Text in the written form of our tools: fields parted by tabs, decimals without leading zeros, lower-case hex.
+#![tactic(auto)]
+
 ghost use Rattle.std.specs.Prelude.{◌≡◌, ◌≤◌, ◌<◌, ◌%◌, length, get_or, take, drop};
 ghost use Rattle.text.specs.Digits.{value_of, glyph_of, glyphs, digits_read, digits_in, digits_of, leading_zero, decimal_of, address_of, are_hex, pair_of, hex_text, half_text};
 ghost use Rattle.text.specs.Fields.{tab_of, before_of, beyond_of, same_of};
@@ -8,7 +10,7 @@ mod writing;
 pub use writing::{put, put_all, put_half, put_hex, put_number, put_signed};
 
 // What a field says.
-#[derive(Drop)]
+#[derive(Clone, Copy)]
 pub enum Read {
     Number(u32),
     Nothing,

@@ -6,7 +6,7 @@ ghost use Rattle.text.specs.Pages.{page, one_on, write_on};
 use crate::{end_part, glyph, half_hex, hex};
 
 // A number's digits at the end of a room of twenty, and where they begin.
-#[derive(Drop)]
+#[derive(Clone, Copy)]
 struct Spelling {
     digits: [u8; 20],
     from: usize,

@@ -1,4 +1,6 @@
 // The line that a step shows, by value. It changes nothing: a run with a budget of 1 makes the step itself.
+#![tactic(auto)]
+
 ghost use Rattle.std.specs.Prelude.{◌≡◌, false, get_or};
 ghost use Rattle.cpu.specs.Control.{pc_of};
 ghost use Rattle.marks.specs.Memory.{bits};
@@ -15,7 +17,7 @@ use machine::{Data, Event, Line, State};
 use word::{ByteAddr, Width};
 
 // A step that stops shows nothing.
-#[derive(Drop)]
+#[derive(Clone, Copy)]
 pub enum Seen {
     Nothing,
     Step(Line),

@@ -1,1 +1,2 @@
 // Theorems: what each instruction makes of values and control part, in numbers and bits.
+#![tactic(auto)]

@@ -1,4 +1,6 @@
 // Reads the cases of docs/CORPUS.md, runs each through the proved library, and writes one line for each.
+#![tactic(auto)]
+
 mod digests;
 mod lines;
 

@@ -1,4 +1,6 @@
 // Reads the cases of docs/CORPUS.md, "The assembler", assembles each through the proved library, and writes one line for each.
+#![tactic(auto)]
+
 mod lines;
 
 use crate::lines::write_line;

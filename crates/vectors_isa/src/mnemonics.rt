@@ -4,7 +4,7 @@ ghost use Rattle.std.specs.Prelude.{◌≤◌};
 use isa::Instr;
 use word::HalfDisp;
 
-#[derive(Drop)]
+#[derive(Clone, Copy)]
 pub struct Row {
     pub a: u32,
     pub b: u32,

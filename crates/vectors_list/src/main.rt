@@ -1,4 +1,6 @@
 // Writes the lines of docs/VECTORS.md, "Listing", through the proved library. The file `stdout` beside this folder is what the second program computes.
+#![tactic(auto)]
+
 mod lines;
 mod tallies;
 

@@ -1,4 +1,6 @@
 // 32-bit words: bits and fields, arithmetic, addresses, and bytes of memory. Every function has an answer for every input.
+#![tactic(auto)]
+
 mod access;
 mod addresses;
 mod arithmetic;
@@ -12,14 +14,14 @@ pub use bits::{field, is_on, number, with_bit, with_field};
 pub use logic::{at_most, both, either, same};
 
 // An address counts bytes and a displacement halfwords, both modulo 2^32. Only `jump_sum` joins them.
-#[derive(Drop)]
+#[derive(Clone, Copy)]
 pub struct ByteAddr(pub u32);
 
-#[derive(Drop)]
+#[derive(Clone, Copy)]
 pub struct HalfDisp(pub u32);
 
 // The size of an access: 1, 2 or 4 bytes.
-#[derive(Drop)]
+#[derive(Clone, Copy)]
 pub enum Width {
     Byte,
     Half,
@@ -27,7 +29,7 @@ pub enum Width {
 }
 
 // What an addition or a subtraction gives: the word, and its carry or borrow.
-#[derive(Drop)]
+#[derive(Clone, Copy)]
 pub struct Sum {
     pub value: u32,
     pub carry: bool,
