@@ -113,8 +113,8 @@ each_laid k [] y h = refl
 each_laid k (v ∷ l) y h =
     let r : List ℕ = bytes k v ++ (laid k l ++ y) in
     let e : 0 + k ≡ k + 0 = omega arith in
-    rw (append_assoc (bytes k v) (laid k l) y)
-    (ap₂ (λ (x : ℕ) (t : List ℕ). x ∷ t) (load_bytes k v (laid k l ++ y) ∙ mod-eq_of_lt (h 0))
+    ap (λ (t : List ℕ). each (load k t) k (length (v ∷ l)) 0) (append_assoc (bytes k v) (laid k l) y)
+    ∙ (ap₂ (λ (x : ℕ) (t : List ℕ). x ∷ t) (load_bytes k v (laid k l ++ y) ∙ mod-eq_of_lt (h 0))
     (ap (each (load k r) k (length l)) e
     ∙ sym (each_drop k (length l) r k 0)
     ∙ ap (λ (t : List ℕ). each (load k t) k (length l) 0) (drop_at (bytes k v) (laid k l ++ y) k (length_bytes k v))

@@ -150,7 +150,7 @@ lacks_on t k j a e h = go (is_new t.keys j)
 full_all : (t : Labels) (a : ByteAddr) (ls : List (List ℕ)) → has_room t.keys ≡ false → labels_of t a ls ≡ t
 unfolding labels_of
 full_all t a [] h = refl
-full_all t a (l ∷ r) h = rw (full_on t (label_for (is_known l) l) a h) (full_all t _ r h)
+full_all t a (l ∷ r) h = rw (full_on t (label_for (is_known l) l) a h) (full_all t (byte_sum a (bytes_for (is_known l) (what_in l))) r h)
 
 -- ---- line by line
 
