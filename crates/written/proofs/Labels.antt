@@ -9,6 +9,7 @@ use lib.Dec.{ltb, eqb, leb-suc-suc}
 use lib.ListN.{length, get_or, take, length-append, get_or-append}
 use lib.Seq.{append_snoc, get_or_at, take_at, take_all}
 use borrow.Author.Tests.{ltb-true, ltb-false, lt-ltb, le-ltb, eq-eqb, ne_eqb, eqb-true}
+use Rattle.word.specs.Addresses.{byte_sum}
 use Rattle.word.specs.declared.ByteAddr.{ByteAddr}
 use Rattle.expr.specs.Value.{signed_word}
 use Rattle.expr.specs.Expr.{Labels, labels, none, index_of, meaning}
