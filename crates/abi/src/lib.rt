@@ -165,8 +165,7 @@ pub fn is_shaped(r: &[u8]) -> bool
 }
 
 // Reply 0 where there is no record; else the run of the state that it holds, with document 01's reply number.
-#[unsafe(no_mangle)]
-pub extern "C" fn manik_run(
+pub fn manik_run(
     state: &mut [u8],
     mem: &mut [u8],
     marks: &mut [u8],

@@ -6,8 +6,7 @@ ghost use Rattle.std.specs.Prelude.{◌≡◌};
 ghost use Rattle.asm.specs.Assemble.{reply_of, line_of, end_of, assembled_of};
 
 // Assembles the text into the image from `start` on: 0, or the refusal's number.
-#[unsafe(no_mangle)]
-pub extern "C" fn manik_assemble(
+pub fn manik_assemble(
     text: &[u8],
     start: usize,
     image: &mut [u8],

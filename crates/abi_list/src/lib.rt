@@ -6,8 +6,7 @@ ghost use Rattle.std.specs.Prelude.{◌≡◌};
 ghost use Rattle.listing.specs.Lent.{number_of, length_of, listed_of};
 
 // The listing of an image's range, from the buffer's first byte on: 0, or the refusal's number.
-#[unsafe(no_mangle)]
-pub extern "C" fn manik_list(
+pub fn manik_list(
     image: &[u8],
     start: usize,
     end: usize,

@@ -89,8 +89,7 @@ fn look(lines: u8, s: State, m: &[u8], mk: &[u8]) -> Seen
 }
 
 // 1 and the line, or 0 and nothing written: what is no record, what would be refused, and a step that would stop.
-#[unsafe(no_mangle)]
-pub extern "C" fn manik_show(
+pub fn manik_show(
     state: &[u8],
     mem: &[u8],
     marks: &[u8],

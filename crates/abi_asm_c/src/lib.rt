@@ -1,0 +1,21 @@
+// The export of the static library libabi_asm.a. include/manik.h is its C header.
+#![tactic(auto)]
+
+ghost use Rattle.std.specs.Prelude.{◌≡◌};
+ghost use Rattle.asm.specs.Assemble.{reply_of, line_of, end_of, assembled_of};
+
+#[unsafe(no_mangle)]
+pub extern "C" fn manik_assemble(
+    text: &[u8],
+    start: usize,
+    image: &mut [u8],
+    line: &mut usize,
+    end: &mut usize,
+) -> u32
+    ensures value { result ≡ reply_of (assembled_of text.now start image.old).assembled }
+    ensures line_after { line.new ≡ line_of (assembled_of text.now start image.old).assembled }
+    ensures end_after { end.new ≡ end_of (assembled_of text.now start image.old).assembled }
+    ensures image_after { image.new ≡ (assembled_of text.now start image.old).image }
+{
+    abi_asm::manik_assemble(text, start, image, line, end)
+}
