@@ -1,0 +1,7 @@
+use Rattle.cpu.specs.Entries.{entered}
+use Rattle.std.proofs.Common.{rules}
+use Rattle.cpu.proofs.entries.fetch_error.Goals as goal
+
+pub returns : goal.returns
+unfolding entered
+returns c = rw c.enter_error.ensures

@@ -1,0 +1,10 @@
+use mathlib.Core.Path.{sym, ◌∙◌}
+use borrow.Author.Tests.{not-true}
+use Rattle.marks.proofs.Places.{puts_off, clear_none}
+use borrow.Author.Rules.{rules}
+use Rattle.marks.proofs.memory.put_marks.Goals as goal
+
+pub returns-then-is_clear : goal.returns-then-is_clear
+returns-then-is_clear c =
+    rw c.if-not-m.true
+    (sym (puts_off _ _ _ (clear_none _ _ _ (sym c.is_clear.ensures ∙ c.if-is_clear.true))))

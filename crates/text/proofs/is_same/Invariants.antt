@@ -1,0 +1,13 @@
+use Rattle.text.proofs.Laws.{same_on, same_stop, same_none, same_length}
+use Rattle.text.specs.Fields.{same_of}
+use lib.ListN.{drop}
+use mathlib.Core.Path.{◌≡◌, refl, sym, ◌∙◌}
+use Prim.Native.Nat.{◌-◌, ◌≤◌}
+use native.Mathlib.Omega.{arith}
+use Rattle.text.proofs.is_same.Given as goal
+
+abbrev pub invariant-loop-i : goal.invariant-loop-i
+invariant-loop-i l = (l.i ≤ l.n) × (same_of (drop l.i l.a) (drop l.i l.b) ≡ same_of l.a l.b)
+
+abbrev pub decreases-loop-i : goal.decreases-loop-i
+decreases-loop-i l = l.n - l.i

@@ -1,0 +1,18 @@
+use native.Mathlib.Nat.{mod-lt}
+use mathlib.Core.List.{append-nil}
+use lib.ListN.{length-set}
+use lib.Seq.{drop-length}
+use Rattle.text.proofs.Laws.{spell_more, spell_none}
+use Rattle.text.specs.Digits.{digits_of}
+use lib.ListN.{length, drop}
+use mathlib.Core.List.{◌++◌}
+use mathlib.Core.Path.{◌≡◌, refl, sym, ◌∙◌}
+use Prim.Native.Nat.{◌≤◌}
+use native.Mathlib.Omega.{arith}
+use Rattle.text.proofs.spell.Given as goal
+
+abbrev pub invariant-loop-i : goal.invariant-loop-i
+invariant-loop-i l = (l.i ≤ length l.out) × (length l.out ≡ length l.initial.out) × (digits_of l.base l.i l.rest ++ drop l.i l.out ≡ digits_of l.base (length l.initial.out) l.n)
+
+abbrev pub decreases-loop-i : goal.decreases-loop-i
+decreases-loop-i l = l.i

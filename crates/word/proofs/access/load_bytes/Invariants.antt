@@ -1,0 +1,11 @@
+use Rattle.std.proofs.Common.{◌≡◌, ◌+◌, ◌-◌, ◌*◌, ◌^◌, ◌<◌, ◌≤◌, sym, arith, pow_mono, rules, le-leb}
+use borrow.Author.Tests.{lt-leb}
+use Rattle.word.specs.Bytes.{load}
+use Rattle.word.proofs.Memory.{load_none, load_more, byte_more}
+use Rattle.word.proofs.access.load_bytes.Given as goal
+
+abbrev pub invariant-loop-i : goal.invariant-loop-i
+invariant-loop-i l = (l.i ≤ l.n) × (l.v < 2 ^ (8 * l.i)) × (l.v ≡ load l.i l.m l.at)
+
+abbrev pub decreases-loop-i : goal.decreases-loop-i
+decreases-loop-i l = l.n - l.i
