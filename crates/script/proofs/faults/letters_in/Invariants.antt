@@ -1,0 +1,13 @@
+use Rattle.script.proofs.Laws.{letters_start, letters_on, letters_stop, letters_most, letters_none}
+use Rattle.script.specs.Fault.{letters_in}
+use lib.ListN.{length, drop}
+use mathlib.Core.Path.{◌≡◌, sym, ◌∙◌}
+use Prim.Native.Nat.{◌+◌, ◌-◌, ◌≤◌}
+use native.Mathlib.Omega.{arith}
+use Rattle.script.proofs.faults.letters_in.Given as goal
+
+abbrev pub invariant-loop-i : goal.invariant-loop-i
+invariant-loop-i l = (l.i ≤ length l.l) × (l.i ≤ l.most) × (l.i + letters_in (l.most - l.i) (drop l.i l.l) ≡ letters_in l.most l.l)
+
+abbrev pub decreases-loop-i : goal.decreases-loop-i
+decreases-loop-i l = length l.l - l.i

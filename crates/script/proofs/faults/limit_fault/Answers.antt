@@ -1,0 +1,16 @@
+use borrow.Author.Tests.{le-leb, lt-leb}
+use Rattle.script.specs.Fault.{limit_fault}
+use borrow.Author.Rules.{rules}
+use Rattle.script.proofs.faults.limit_fault.Goals as goal
+
+pub returns-then-n-le16384 : goal.returns-then-n-le16384
+unfolding limit_fault
+returns-then-n-le16384 c = rw (c.no_fault-then-n-le16384.ensures, c.in-Number.is, le-leb _ _ c.if-n-le16384.true)
+
+pub returns-in-Nothing : goal.returns-in-Nothing
+unfolding limit_fault
+returns-in-Nothing c = rw (c.no_fault.ensures, c.in-Nothing.is)
+
+pub returns-else-n-le16384 : goal.returns-else-n-le16384
+unfolding limit_fault
+returns-else-n-le16384 c = rw (c.found_at.ensures, c.in-Number.is, lt-leb _ _ c.if-n-le16384.false)

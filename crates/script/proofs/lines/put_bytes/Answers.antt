@@ -1,0 +1,20 @@
+use borrow.Author.Rules.{rules}
+use Rattle.script.proofs.Laws.{put_start, put_more, put_none}
+use Rattle.script.specs.Line.{pairs_of}
+use lib.Seq.{sets}
+use lib.ListN.{length, drop, length-set}
+use mathlib.Core.Path.{◌≡◌, refl, sym, ◌∙◌}
+use Prim.Native.Nat.{◌+◌, ◌*◌, ◌-◌, ◌/◌, ◌≤◌}
+use native.Mathlib.Omega.{arith}
+use Rattle.script.proofs.lines.put_bytes.Goals as goal
+
+pub loop-i-preserved : goal.loop-i-preserved
+loop-i-preserved c = (
+  omega arith,
+  rw (c.put_byte.ensures, length-set) c.loop-i.invariant.1,
+  rw (c.put_byte.ensures, c.pair.ensures)
+      (sym (put_more _ _ _ _ c.loop-i-test.true) ∙ c.loop-i.invariant.2),
+)
+
+pub returns : goal.returns
+returns c = sym (put_none _ _ _ _ c.loop-i-test.false) ∙ c.loop-i.invariant.2
