@@ -1,0 +1,12 @@
+use Prim.Native.Nat.{◌-◌}
+use mathlib.Core.Path.{◌≡◌, refl, ◌∙◌}
+use lib.ListN.{length}
+use Rattle.forms.specs.Parts.{stop_at}
+use Rattle.forms.proofs.Laws.{stop_tab, stop_newline, stop_on, stop_none}
+use Rattle.forms.proofs.fields.stop_from.Given as goal
+
+abbrev pub invariant-loop-i : goal.invariant-loop-i
+invariant-loop-i l = stop_at l.t l.i ≡ stop_at l.t l.from
+
+abbrev pub decreases-loop-i : goal.decreases-loop-i
+decreases-loop-i l = length l.t - l.i
