@@ -1,0 +1,21 @@
+use mathlib.Core.Path.{sym, ap, ◌∙◌}
+use native.Mathlib.Omega.{arith}
+use lib.Seq.{length-take-le}
+use Rattle.expr.specs.Expr.{Labels}
+use Rattle.forms.specs.Form.{lines_of}
+use Rattle.asm.specs.Assemble.{verdict_in, assembled_of}
+use Rattle.asm.specs.Parts.{assembled_with}
+use Rattle.asm.proofs.Laws.{not_outside}
+use borrow.Author.Rules.{rules}
+use Rattle.asm.proofs.passes.assemble.Goals as goal
+
+pub returns-then-is_outside : goal.returns-then-is_outside
+unfolding assembled_of verdict_in
+returns-then-is_outside c = rw (← c.is_outside.ensures, c.if-is_outside.true)
+
+pub returns : goal.returns
+unfolding assembled_of verdict_in assembled_with
+returns c =
+    rw (← c.is_outside.ensures, c.if-is_outside.false)
+    (c.assemble_with.ensures
+    ∙ ap (λ (t : Labels). assembled_with t (lines_of c.args.text.now) c.args.start c.args.image.now) c.collect-found.ensures.places_after)

@@ -1,0 +1,11 @@
+use Rattle.asm.specs.Assemble.{bytes_for}
+use borrow.Author.Rules.{rules}
+use Rattle.asm.proofs.passes.bytes_for.Goals as goal
+
+pub returns-then-known : goal.returns-then-known
+unfolding bytes_for
+returns-then-known c = rw (c.shape_of-s.ensures, c.if-known.true)
+
+pub returns : goal.returns
+unfolding bytes_for
+returns c = rw c.if-known.false
