@@ -1,0 +1,20 @@
+use mathlib.Core.Path.{refl, sym, ◌∙◌}
+use native.Mathlib.Omega.{arith}
+use Rattle.marks.specs.Memory.{bits}
+use Rattle.machine.specs.Run.{run_of}
+use Rattle.machine.proofs.Laws.{long_tape}
+use borrow.Author.Rules.{rules}
+use Rattle.machine.proofs.run.run.Goals as goal
+
+pub steps-requires : goal.steps-requires
+steps-requires c =
+    let a = c.args in
+    omega (arith, long_tape a.b a.t.now a.s a.m.now (bits a.k.now) (sym c.judge_all-j.ensures ∙ c.in-Good.is))
+
+pub returns-in-Refused : goal.returns-in-Refused
+unfolding run_of
+returns-in-Refused c = rw (← c.judge_all-j.ensures, c.in-Refused.is) (record { value = refl; m_after = refl; k_after = refl })
+
+pub returns-in-Good : goal.returns-in-Good
+unfolding run_of
+returns-in-Good c = rw (← c.judge_all-j.ensures, c.in-Good.is) c.steps.ensures

@@ -1,0 +1,18 @@
+use native.Mathlib.Omega.{arith}
+use Prim.Native.Nat.{◌-◌, ◌≤◌}
+use mathlib.Core.Path.{◌≡◌, refl, sym, ap, ◌∙◌}
+use lib.ListN.{length, length-set}
+use lib.Seq.{set_out}
+use Rattle.marks.specs.Memory.{bits}
+use Rattle.instruction.specs.Parts.{flags}
+use Rattle.machine.specs.Parts.{state_of}
+use Rattle.machine.specs.Run.{Final, steps_of}
+use Rattle.machine.proofs.Laws.{steps_all, mark_stays, steps_end, out_stops, out_errs, out_goes}
+use Rattle.machine.proofs.run.steps.Given as goal
+
+abbrev pub invariant-loop-n : goal.invariant-loop-n
+invariant-loop-n l =
+    (l.n ≤ l.b) × (length l.m ≡ length l.initial.m) × (length l.k ≡ length l.initial.k) × (steps_of (l.b - l.n) l.n l.t (state_of l.regs l.marks (flags l.tf l.cy) l.control) l.m (bits l.k) ≡ steps_of l.b 0 l.t (state_of l.initial.regs l.initial.marks (flags l.initial.tf l.initial.cy) l.initial.control) l.initial.m (bits l.initial.k)) × (length l.regs ≡ 16) × (length l.marks ≡ 16)
+
+abbrev pub decreases-loop-n : goal.decreases-loop-n
+decreases-loop-n l = l.b - l.n
