@@ -1,0 +1,9 @@
+use borrow.Author.Rules.{rules}
+use borrow.Author.Tests.{le-ltb}
+use Rattle.listing.proofs.Lent.{roomy}
+use lib.Dec.{ltb}
+use mathlib.Core.Path.{sym, ap}
+use Rattle.listing.proofs.ranges.is_short.Goals as goal
+
+pub returns-then-end-start : goal.returns-then-end-start
+returns-then-end-start c = sym (le-ltb _ _ (roomy _ _ _ _ c.requires c.if-end-start.true))

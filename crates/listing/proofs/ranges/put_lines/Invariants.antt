@@ -1,0 +1,18 @@
+use Rattle.listing.proofs.Ranged.{step_short, step_long, step_kept, step_fits, place_is, next_place, kept_front, none_long}
+use Rattle.listing.specs.Listing.{listing_of}
+use Rattle.text.specs.Pages.{page, write_on}
+use lib.ListN.{length}
+use mathlib.Core.Bool.{Bool, true, false, cond}
+use mathlib.Core.Path.{◌≡◌, refl, ◌∙◌}
+use Prim.Native.Nat.{ℕ, ◌+◌, ◌-◌, ◌*◌, ◌≤◌}
+use native.Mathlib.Omega.{arith}
+use Rattle.listing.proofs.ranges.put_lines.Given as goal
+
+abbrev pub invariant-loop-at : goal.invariant-loop-at
+invariant-loop-at l =
+    (l.total + length (listing_of l.image l.at l.end) ≡ length (listing_of l.image l.start l.end)) × (l.to ≡ cond l.keep l.total 0)
+    × (l.keep ≡ true → write_on (listing_of l.image l.at l.end) (page l.out l.to) ≡ write_on (listing_of l.image l.start l.end) (page l.initial.out 0))
+    × (length l.out ≡ length l.initial.out) × (l.total ≤ 24 * l.at) × (l.at ≤ 65540)
+
+abbrev pub decreases-loop-at : goal.decreases-loop-at
+decreases-loop-at l = l.end - l.at
