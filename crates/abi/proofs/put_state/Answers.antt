@@ -1,0 +1,12 @@
+use Rattle.std.proofs.Common.{◌≡◌, ℕ, length, arith, rules}
+use Rattle.abi.proofs.Parts.{written}
+use borrow.Author.Tests.{eq-eqb}
+use Rattle.abi.proofs.put_state.Goals as goal
+
+pub returns-then-r-eq160 : goal.returns-then-r-eq160
+returns-then-r-eq160 c =
+    let n : length c.args.s.regs ≡ 16 = search rules in
+    let l : length c.args.s.marks ≡ 16 = search rules in
+    let e = c.if-r-eq160.true in
+    rw (c.put_control.ensures, c.put_flags.ensures, c.put_words.ensures, eq-eqb _ _ e)
+    (written c.args.r.now c.args.s e n l)
