@@ -89,13 +89,7 @@ fn look(lines: u8, s: State, m: &[u8], mk: &[u8]) -> Seen
 }
 
 // 1 and the line, or 0 and nothing written: what is no record, what would be refused, and a step that would stop.
-pub fn manik_show(
-    state: &[u8],
-    mem: &[u8],
-    marks: &[u8],
-    lines: u8,
-    line: &mut [u8],
-) -> u32
+pub fn manik_show(state: &[u8], mem: &[u8], marks: &[u8], lines: u8, line: &mut [u8]) -> u32
     ensures value { result ≡ (show_of state.now mem.now (bits marks.now) lines line.old).found }
     ensures line_after { line.new ≡ (show_of state.now mem.now (bits marks.now) lines line.old).line }
 {
