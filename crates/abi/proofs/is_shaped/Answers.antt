@@ -1,6 +1,5 @@
 use borrow.Author.Tests.{eq-eqb, ne_eqb}
 use Rattle.abi.specs.Record.{shaped}
-use borrow.Author.Rules.{rules}
 use Rattle.abi.proofs.is_shaped.Goals as goal
 
 pub returns-then-r-eq160 : goal.returns-then-r-eq160

@@ -2,7 +2,6 @@ use mathlib.Core.Path.{refl, sym, ◌∙◌}
 use Rattle.abi.proofs.Parts.{in_shape}
 use borrow.Author.Tests.{eq-eqb}
 use Rattle.abi.specs.Call.{called}
-use borrow.Author.Rules.{rules}
 use Rattle.abi.proofs.manik_run.Goals as goal
 
 pub returns-then-is_shaped : goal.returns-then-is_shaped

@@ -1,11 +1,9 @@
-use Prim.Native.Nat.{◌+◌, ◌-◌, ◌<◌, ◌≤◌}
-use mathlib.Core.Path.{◌≡◌, refl, sym, ◌∙◌}
-use mathlib.Core.List.{◌++◌}
+use Prim.Native.Nat.{◌+◌, ◌-◌, ◌<◌}
+use mathlib.Core.Path.{sym, ◌∙◌}
 use native.Mathlib.Omega.{arith}
-use lib.ListN.{length, take, length-set}
-use Rattle.abi.specs.Record.{flag_at, each}
+use lib.ListN.{length-set}
+use Rattle.abi.specs.Record.{flag_at}
 use Rattle.abi.proofs.Laws.{fill_more, fill_none}
-use borrow.Author.Rules.{rules}
 use Rattle.abi.proofs.marks_at.Goals as goal
 
 pub loop-i-preserved : goal.loop-i-preserved

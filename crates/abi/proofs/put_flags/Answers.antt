@@ -1,17 +1,13 @@
 use Prim.Native.Nat.{◌+◌, ◌-◌, ◌<◌, ◌≤◌}
-use mathlib.Core.Path.{◌≡◌, refl, sym, ◌∙◌}
+use mathlib.Core.Path.{sym, ◌∙◌}
 use mathlib.Core.Bool.{false}
 use mathlib.Core.List.{map}
-use native.Mathlib.Nat.{add-zero}
 use native.Mathlib.Omega.{arith}
-use lib.ListN.{length, drop, length-map, get_or-map}
-use lib.Seq.{sets}
+use lib.ListN.{length, length-map, get_or-map}
 use borrow.Author.Tests.{le-leb}
 use Rattle.word.specs.Bits.{num}
 use Rattle.word.proofs.Memory.{store_length}
-use Rattle.abi.specs.Record.{laid, flags}
 use Rattle.abi.proofs.Laws.{put_more, put_none}
-use borrow.Author.Rules.{rules}
 use Rattle.abi.proofs.put_flags.Goals as goal
 
 pub loop-i-preserved : goal.loop-i-preserved

@@ -1,16 +1,10 @@
-use Prim.Native.Nat.{◌+◌, ◌-◌, ◌<◌, ◌≤◌}
-use mathlib.Core.Path.{◌≡◌, refl, sym, ◌∙◌}
-use mathlib.Core.Bool.{false}
+use Prim.Native.Nat.{◌+◌, ◌-◌, ◌≤◌}
+use mathlib.Core.Path.{◌≡◌}
 use mathlib.Core.List.{map}
-use native.Mathlib.Nat.{add-zero}
-use native.Mathlib.Omega.{arith}
-use lib.ListN.{length, drop, length-map, get_or-map}
+use lib.ListN.{length, drop}
 use lib.Seq.{sets}
-use borrow.Author.Tests.{le-leb}
 use Rattle.word.specs.Bits.{num}
-use Rattle.word.proofs.Memory.{store_length}
 use Rattle.abi.specs.Record.{laid, flags}
-use Rattle.abi.proofs.Laws.{put_more, put_none}
 use Rattle.abi.proofs.put_flags.Given as goal
 
 abbrev pub invariant-loop-i : goal.invariant-loop-i

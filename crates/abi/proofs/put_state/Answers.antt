@@ -1,4 +1,4 @@
-use Rattle.std.proofs.Common.{◌≡◌, ℕ, length, arith, rules}
+use Rattle.std.proofs.Common.{◌≡◌, length, rules}
 use Rattle.abi.proofs.Parts.{written}
 use borrow.Author.Tests.{eq-eqb}
 use Rattle.abi.proofs.put_state.Goals as goal

@@ -1,14 +1,10 @@
 use Prim.Native.Nat.{◌+◌, ◌*◌, ◌-◌, ◌<◌, ◌≤◌}
-use mathlib.Core.Path.{◌≡◌, refl, sym, ◌∙◌}
-use native.Mathlib.Nat.{add-zero}
+use mathlib.Core.Path.{sym, ◌∙◌}
 use native.Mathlib.Omega.{arith}
-use lib.ListN.{length, drop}
-use lib.Seq.{sets}
+use lib.ListN.{length}
 use borrow.Author.Tests.{le-leb}
 use Rattle.word.proofs.Memory.{store_length}
-use Rattle.abi.specs.Record.{words}
 use Rattle.abi.proofs.Laws.{put_more, put_none}
-use borrow.Author.Rules.{rules}
 use Rattle.abi.proofs.put_words.Goals as goal
 
 pub loop-i-preserved : goal.loop-i-preserved

@@ -1,5 +1,4 @@
 use Rattle.abi.specs.Record.{state_at}
-use borrow.Author.Rules.{rules}
 use Rattle.abi.proofs.state_at.Goals as goal
 
 pub returns : goal.returns

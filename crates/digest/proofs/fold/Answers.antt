@@ -1,5 +1,4 @@
 use Rattle.digest.proofs.Laws.{cut_first}
-use borrow.Author.Rules.{rules}
 use Rattle.digest.proofs.fold.Goals as goal
 
 pub returns : goal.returns

@@ -1,9 +1,7 @@
-use native.Mathlib.Omega.{arith}
 use Prim.Native.Nat.{◌-◌, ◌≤◌}
-use mathlib.Core.Path.{◌≡◌, refl, sym, ◌∙◌}
+use mathlib.Core.Path.{◌≡◌}
 use lib.ListN.{length, drop}
 use Rattle.digest.specs.Digest.{digest_of}
-use Rattle.digest.proofs.Laws.{fold_more, fold_none}
 use Rattle.digest.proofs.fold_bytes.Given as goal
 
 abbrev pub invariant-loop-i : goal.invariant-loop-i

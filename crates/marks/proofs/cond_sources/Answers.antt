@@ -1,5 +1,4 @@
 use Rattle.marks.specs.Marks.{cond_mark}
-use borrow.Author.Rules.{rules}
 use Rattle.marks.proofs.cond_sources.Goals as goal
 
 pub returns-in-Mov : goal.returns-in-Mov

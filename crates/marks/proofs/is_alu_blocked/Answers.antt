@@ -1,5 +1,4 @@
 use Rattle.marks.specs.Marks.{alu_blocked}
-use borrow.Author.Rules.{rules}
 use Rattle.marks.proofs.is_alu_blocked.Goals as goal
 
 pub returns-in-Sub : goal.returns-in-Sub

@@ -1,5 +1,4 @@
 use Rattle.marks.specs.Marks.{long_blocked}
-use borrow.Author.Rules.{rules}
 use Rattle.marks.proofs.is_long_blocked.Goals as goal
 
 pub returns-in-Jf : goal.returns-in-Jf

@@ -1,6 +1,5 @@
 use borrow.Author.Tests.{eq-eqb, ne_eqb}
 use Rattle.marks.specs.Marks.{sfr_mark}
-use borrow.Author.Rules.{rules}
 use Rattle.marks.proofs.is_sfr_marked.Goals as goal
 
 pub returns-then-n-eq0 : goal.returns-then-n-eq0

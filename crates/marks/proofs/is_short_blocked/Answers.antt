@@ -1,5 +1,4 @@
 use Rattle.marks.specs.Marks.{short_blocked}
-use borrow.Author.Rules.{rules}
 use Rattle.marks.proofs.is_short_blocked.Goals as goal
 
 pub returns-in-Sjf : goal.returns-in-Sjf

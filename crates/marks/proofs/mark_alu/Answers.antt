@@ -1,7 +1,6 @@
 use Rattle.marks.specs.Marks.{alu_flags}
 use Rattle.marks.specs.Marks.{alu_mark}
 use Rattle.marks.specs.Marks.{taint}
-use borrow.Author.Rules.{rules}
 use Rattle.marks.proofs.mark_alu.Goals as goal
 
 pub returns-in-Sub : goal.returns-in-Sub

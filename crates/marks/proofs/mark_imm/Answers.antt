@@ -1,6 +1,5 @@
 use Rattle.marks.specs.Marks.{imm_mark}
 use Rattle.marks.specs.Marks.{taint}
-use borrow.Author.Rules.{rules}
 use Rattle.marks.proofs.mark_imm.Goals as goal
 
 pub returns-in-And : goal.returns-in-And

@@ -1,6 +1,5 @@
 use borrow.Author.Tests.{eq-eqb, ne_eqb}
 use Rattle.marks.specs.Marks.{taint}
-use borrow.Author.Rules.{rules}
 use Rattle.marks.proofs.mark_mtsfr.Goals as goal
 
 pub returns-then-n-eq0 : goal.returns-then-n-eq0

@@ -1,9 +1,7 @@
 use Rattle.text.proofs.Laws.{hex_on, hex_stop, hex_none}
-use borrow.Author.Rules.{rules}
 use Rattle.text.specs.Digits.{are_hex}
-use lib.ListN.{length, drop}
-use mathlib.Core.Path.{◌≡◌, refl, sym, ◌∙◌}
-use Prim.Native.Nat.{◌-◌, ◌≤◌}
+use mathlib.Core.Path.{sym, ◌∙◌}
+use Prim.Native.Nat.{◌-◌}
 use native.Mathlib.Omega.{arith}
 use Rattle.text.proofs.are_hex.Goals as goal
 

@@ -1,9 +1,7 @@
-use Rattle.text.proofs.Laws.{hex_on, hex_stop, hex_none}
 use Rattle.text.specs.Digits.{are_hex}
 use lib.ListN.{length, drop}
-use mathlib.Core.Path.{◌≡◌, refl, sym, ◌∙◌}
+use mathlib.Core.Path.{◌≡◌}
 use Prim.Native.Nat.{◌-◌, ◌≤◌}
-use native.Mathlib.Omega.{arith}
 use Rattle.text.proofs.are_hex.Given as goal
 
 abbrev pub invariant-loop-i : goal.invariant-loop-i

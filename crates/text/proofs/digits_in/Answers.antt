@@ -1,9 +1,6 @@
-use Rattle.text.proofs.Laws.{digits_start, digits_on, digits_stop, digits_most, digits_none}
-use borrow.Author.Rules.{rules}
+use Rattle.text.proofs.Laws.{digits_on, digits_stop, digits_most, digits_none}
 use Rattle.text.specs.Digits.{digits_in}
-use lib.ListN.{length, drop}
-use mathlib.Core.Path.{◌≡◌}
-use Prim.Native.Nat.{◌+◌, ◌-◌, ◌≤◌}
+use Prim.Native.Nat.{◌-◌}
 use native.Mathlib.Omega.{arith}
 use Rattle.text.proofs.digits_in.Goals as goal
 

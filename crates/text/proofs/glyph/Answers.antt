@@ -1,6 +1,5 @@
 use Rattle.text.specs.Digits.{glyph_of}
 use borrow.Author.Tests.{lt-ltb, le-ltb}
-use borrow.Author.Rules.{rules}
 use Rattle.text.proofs.glyph.Goals as goal
 
 pub returns-then-d-lt10 : goal.returns-then-d-lt10

@@ -1,9 +1,6 @@
 use Rattle.text.proofs.Laws.{same_on, same_stop, same_none, same_length}
-use borrow.Author.Rules.{rules}
-use Rattle.text.specs.Fields.{same_of}
-use lib.ListN.{drop}
-use mathlib.Core.Path.{◌≡◌, refl, sym, ◌∙◌}
-use Prim.Native.Nat.{◌-◌, ◌≤◌}
+use mathlib.Core.Path.{sym, ◌∙◌}
+use Prim.Native.Nat.{◌-◌}
 use native.Mathlib.Omega.{arith}
 use Rattle.text.proofs.is_same.Goals as goal
 

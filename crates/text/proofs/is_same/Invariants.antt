@@ -1,9 +1,7 @@
-use Rattle.text.proofs.Laws.{same_on, same_stop, same_none, same_length}
 use Rattle.text.specs.Fields.{same_of}
 use lib.ListN.{drop}
-use mathlib.Core.Path.{◌≡◌, refl, sym, ◌∙◌}
+use mathlib.Core.Path.{◌≡◌}
 use Prim.Native.Nat.{◌-◌, ◌≤◌}
-use native.Mathlib.Omega.{arith}
 use Rattle.text.proofs.is_same.Given as goal
 
 abbrev pub invariant-loop-i : goal.invariant-loop-i

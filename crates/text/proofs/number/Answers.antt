@@ -1,11 +1,6 @@
-use Rattle.text.proofs.Laws.{number_on, number_stop, number_none, digit_more, digit_fits}
 use Rattle.text.proofs.Laws.{number_on, number_stop, number_none, digit_more}
-use borrow.Author.Rules.{rules}
-use Rattle.text.specs.Digits.{digits_read}
-use lib.Pow.{pow_mono}
-use lib.ListN.{length, drop}
-use mathlib.Core.Path.{◌≡◌, refl, sym, ◌∙◌}
-use Prim.Native.Nat.{◌-◌, ◌*◌, ◌^◌, ◌≤◌, ◌<◌}
+use mathlib.Core.Path.{sym, ◌∙◌}
+use Prim.Native.Nat.{◌-◌}
 use native.Mathlib.Omega.{arith}
 use Rattle.text.proofs.number.Goals as goal
 

@@ -1,14 +1,6 @@
-use native.Mathlib.Nat.{mod-lt}
-use mathlib.Core.List.{append-nil}
 use lib.ListN.{length-set}
-use lib.Seq.{drop-length}
 use Rattle.text.proofs.Laws.{spell_more, spell_none}
-use borrow.Author.Rules.{rules}
-use Rattle.text.specs.Digits.{digits_of}
-use lib.ListN.{length, drop}
-use mathlib.Core.List.{◌++◌}
-use mathlib.Core.Path.{◌≡◌, refl, sym, ◌∙◌}
-use Prim.Native.Nat.{◌≤◌}
+use mathlib.Core.Path.{sym, ◌∙◌}
 use native.Mathlib.Omega.{arith}
 use Rattle.text.proofs.spell.Goals as goal
 

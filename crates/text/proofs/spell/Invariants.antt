@@ -1,14 +1,8 @@
-use native.Mathlib.Nat.{mod-lt}
-use mathlib.Core.List.{append-nil}
-use lib.ListN.{length-set}
-use lib.Seq.{drop-length}
-use Rattle.text.proofs.Laws.{spell_more, spell_none}
 use Rattle.text.specs.Digits.{digits_of}
 use lib.ListN.{length, drop}
 use mathlib.Core.List.{◌++◌}
-use mathlib.Core.Path.{◌≡◌, refl, sym, ◌∙◌}
+use mathlib.Core.Path.{◌≡◌}
 use Prim.Native.Nat.{◌≤◌}
-use native.Mathlib.Omega.{arith}
 use Rattle.text.proofs.spell.Given as goal
 
 abbrev pub invariant-loop-i : goal.invariant-loop-i

@@ -1,9 +1,5 @@
 use Rattle.text.proofs.Laws.{tab_on, tab_stop, tab_none}
-use borrow.Author.Rules.{rules}
-use Rattle.text.specs.Fields.{tab_of}
-use lib.ListN.{length, drop}
-use mathlib.Core.Path.{◌≡◌}
-use Prim.Native.Nat.{◌+◌, ◌-◌, ◌≤◌}
+use Prim.Native.Nat.{◌-◌}
 use native.Mathlib.Omega.{arith}
 use Rattle.text.proofs.tab_in.Goals as goal
 

@@ -1,9 +1,7 @@
-use Rattle.text.proofs.Laws.{tab_on, tab_stop, tab_none}
 use Rattle.text.specs.Fields.{tab_of}
 use lib.ListN.{length, drop}
 use mathlib.Core.Path.{◌≡◌}
 use Prim.Native.Nat.{◌+◌, ◌-◌, ◌≤◌}
-use native.Mathlib.Omega.{arith}
 use Rattle.text.proofs.tab_in.Given as goal
 
 abbrev pub invariant-loop-i : goal.invariant-loop-i

@@ -1,7 +1,6 @@
 use Rattle.text.specs.Digits.{value_of}
 use native.Mathlib.Omega.{arith}
 use borrow.Author.Tests.{lt-ltb, le-ltb}
-use borrow.Author.Rules.{rules}
 use Rattle.text.proofs.value.Goals as goal
 
 pub returns-then-c-lt48 : goal.returns-then-c-lt48

@@ -1,5 +1,4 @@
 use Rattle.instruction.specs.Act.{reach_of}
-use borrow.Author.Rules.{rules}
 use Rattle.trace.proofs.address_of.Goals as goal
 
 pub returns-in-Alu : goal.returns-in-Alu

@@ -1,5 +1,4 @@
 use Rattle.machine.specs.Step.{step_of}
-use borrow.Author.Rules.{rules}
 use Rattle.trace.proofs.show.Goals as goal
 
 pub returns-in-Enter : goal.returns-in-Enter

@@ -1,5 +1,4 @@
 use Rattle.machine.specs.Step.{line_of}
-use borrow.Author.Rules.{rules}
 use Rattle.trace.proofs.show_act.Goals as goal
 
 pub returns-in-Does : goal.returns-in-Does

@@ -1,6 +1,5 @@
 use Rattle.marks.specs.Memory.{bits}
 use Rattle.trace.proofs.Laws.{seen_instr}
-use borrow.Author.Rules.{rules}
 use Rattle.trace.proofs.show_instr.Goals as goal
 
 pub returns : goal.returns

@@ -1,7 +1,6 @@
 use Rattle.answer.specs.Answer.{answered}
 use mathlib.Core.Path.{refl}
 use borrow.Author.Tests.{eq-eqb, ne_eqb}
-use borrow.Author.Rules.{rules}
 use Rattle.answer.proofs.answering.answer.Goals as goal
 
 pub returns-then-r-eq0 : goal.returns-then-r-eq0

@@ -1,6 +1,5 @@
 use Rattle.answer.proofs.Laws.{write_bad}
 use mathlib.Core.Path.{sym}
-use borrow.Author.Rules.{rules}
 use Rattle.answer.proofs.writing.put_bad.Goals as goal
 
 pub returns : goal.returns

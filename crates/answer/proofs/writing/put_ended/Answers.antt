@@ -1,6 +1,5 @@
 use Rattle.answer.proofs.Laws.{write_refused, write_ended}
 use mathlib.Core.Path.{sym}
-use borrow.Author.Rules.{rules}
 use Rattle.answer.proofs.writing.put_ended.Goals as goal
 
 pub returns-then-n-lt10 : goal.returns-then-n-lt10

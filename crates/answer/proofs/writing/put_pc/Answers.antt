@@ -1,6 +1,5 @@
 use Rattle.answer.proofs.Laws.{write_pc}
 use mathlib.Core.Path.{sym}
-use borrow.Author.Rules.{rules}
 use Rattle.answer.proofs.writing.put_pc.Goals as goal
 
 pub returns : goal.returns

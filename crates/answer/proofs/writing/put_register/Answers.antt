@@ -1,7 +1,6 @@
 use Rattle.text.specs.Pages.{write_on}
 use borrow.Author.Tests.{eq-eqb, ne_eqb}
 use Rattle.answer.specs.Answer.{register_text}
-use borrow.Author.Rules.{rules}
 use Rattle.answer.proofs.writing.put_register.Goals as goal
 
 pub returns-then-mark : goal.returns-then-mark

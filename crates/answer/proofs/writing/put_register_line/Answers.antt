@@ -1,6 +1,5 @@
 use Rattle.answer.proofs.Laws.{write_register}
 use mathlib.Core.Path.{sym}
-use borrow.Author.Rules.{rules}
 use Rattle.answer.proofs.writing.put_register_line.Goals as goal
 
 pub returns : goal.returns

@@ -1,10 +1,7 @@
 use borrow.Author.Rules.{rules}
 use Rattle.answer.proofs.Laws.{registers_more, registers_none}
-use Rattle.answer.specs.Answer.{registers_text}
-use Rattle.text.specs.Pages.{page, write_on}
-use lib.ListN.{length}
-use mathlib.Core.Path.{◌≡◌, refl, sym, ◌∙◌}
-use Prim.Native.Nat.{◌-◌, ◌≤◌}
+use mathlib.Core.Path.{sym, ◌∙◌}
+use Prim.Native.Nat.{◌-◌}
 use native.Mathlib.Omega.{arith}
 use Rattle.answer.proofs.writing.put_registers.Goals as goal
 

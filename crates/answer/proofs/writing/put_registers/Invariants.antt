@@ -1,10 +1,8 @@
-use Rattle.answer.proofs.Laws.{registers_more, registers_none}
 use Rattle.answer.specs.Answer.{registers_text}
 use Rattle.text.specs.Pages.{page, write_on}
 use lib.ListN.{length}
-use mathlib.Core.Path.{◌≡◌, refl, sym, ◌∙◌}
+use mathlib.Core.Path.{◌≡◌}
 use Prim.Native.Nat.{◌-◌, ◌≤◌}
-use native.Mathlib.Omega.{arith}
 use Rattle.answer.proofs.writing.put_registers.Given as goal
 
 abbrev pub invariant-loop-i : goal.invariant-loop-i

@@ -1,8 +1,6 @@
 use lib.ListN.{length-set}
-use native.Mathlib.Omega.{arith}
 use mathlib.Core.Path.{sym, ◌∙◌}
-use Rattle.asm.proofs.Laws.{whole_names, has_place, fewer, same_size, more_labels, same_labels}
-use borrow.Author.Rules.{rules}
+use Rattle.asm.proofs.Laws.{fewer, same_size, more_labels, same_labels}
 use Rattle.asm.proofs.labels.add_label.Goals as goal
 
 pub returns-then-is_new : goal.returns-then-is_new

@@ -1,6 +1,5 @@
 use mathlib.Core.Path.{sym, ◌∙◌}
-use Rattle.asm.proofs.Laws.{whole_names, has_place, fewer, same_size, more_names, same_names}
-use borrow.Author.Rules.{rules}
+use Rattle.asm.proofs.Laws.{fewer, same_size, more_names, same_names}
 use Rattle.asm.proofs.labels.add_name.Goals as goal
 
 pub returns-then-is_new : goal.returns-then-is_new

@@ -1,7 +1,6 @@
 use native.Mathlib.Omega.{arith}
 use Rattle.forms.proofs.Cuts.{cut_there}
 use Rattle.forms.specs.Form.{is_known_as, is_known_body, fits_shape}
-use borrow.Author.Rules.{rules}
 use Rattle.asm.proofs.lines.is_known_as.Goals as goal
 
 pub part-label-requires : goal.part-label-requires

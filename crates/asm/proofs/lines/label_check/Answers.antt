@@ -1,6 +1,5 @@
 use borrow.Author.Tests.{lt-ltb, le-ltb, eq-eqb, ne_eqb}
 use Rattle.asm.specs.Assemble.{label_check}
-use borrow.Author.Rules.{rules}
 use Rattle.asm.proofs.lines.label_check.Goals as goal
 
 pub returns-then-k-eq0 : goal.returns-then-k-eq0

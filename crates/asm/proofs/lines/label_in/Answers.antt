@@ -1,6 +1,5 @@
 use native.Mathlib.Omega.{arith}
 use Rattle.forms.proofs.Cuts.{cut_there}
-use borrow.Author.Rules.{rules}
 use Rattle.asm.proofs.lines.label_in.Goals as goal
 
 pub part-requires : goal.part-requires

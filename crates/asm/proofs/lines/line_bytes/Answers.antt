@@ -3,7 +3,6 @@ use Rattle.forms.proofs.Cuts.{cut_there}
 use mir.Syntax.{w32}
 use mir.ValLaws.{to_z-of_z}
 use Rattle.asm.specs.Assemble.{line_value, line_bits, line_bytes}
-use borrow.Author.Rules.{rules}
 use Rattle.asm.proofs.lines.line_bytes.Goals as goal
 
 pub part-x-requires : goal.part-x-requires

@@ -3,7 +3,6 @@ use Rattle.forms.proofs.Cuts.{cut_there}
 use Rattle.asm.specs.Parts.{check_sure}
 use Rattle.asm.specs.Assemble.{line_value}
 use Rattle.asm.proofs.Laws.{check_by_lem}
-use borrow.Author.Rules.{rules}
 use Rattle.asm.proofs.lines.line_check.Goals as goal
 
 pub part-x-requires : goal.part-x-requires

@@ -1,6 +1,5 @@
 use Rattle.asm.specs.Assemble.{sum_at}
 use Rattle.asm.proofs.Laws.{sum_by}
-use borrow.Author.Rules.{rules}
 use Rattle.asm.proofs.lines.line_value.Goals as goal
 
 pub returns-then-takes_sum : goal.returns-then-takes_sum

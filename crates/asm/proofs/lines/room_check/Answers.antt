@@ -2,7 +2,6 @@ use Prim.Native.Nat.{◌+◌, ◌<◌, ◌≤◌}
 use native.Mathlib.Omega.{arith}
 use borrow.Author.Tests.{lt-ltb, le-ltb}
 use Rattle.asm.specs.Assemble.{room_check}
-use borrow.Author.Rules.{rules}
 use Rattle.asm.proofs.lines.room_check.Goals as goal
 
 pub returns-then-end-at : goal.returns-then-end-at

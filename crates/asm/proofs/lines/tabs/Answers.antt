@@ -2,7 +2,6 @@ use native.Mathlib.Omega.{arith}
 use Rattle.forms.proofs.Cuts.{cut_there}
 use mathlib.Core.Path.{ap}
 use lib.ListN.{length}
-use borrow.Author.Rules.{rules}
 use Rattle.asm.proofs.lines.tabs.Goals as goal
 
 pub part-requires : goal.part-requires

@@ -2,7 +2,6 @@ use mathlib.Core.Path.{ap, ◌∙◌}
 use mir.Syntax.{w32}
 use mir.ValLaws.{to_z-of_z}
 use Rattle.asm.specs.Parts.{bits_by, check_by}
-use borrow.Author.Rules.{rules}
 use Rattle.asm.proofs.lines.value_check.Goals as goal
 
 pub returns-in-Is : goal.returns-in-Is

@@ -1,7 +1,6 @@
 use mir.Syntax.{w32}
 use mir.ValLaws.{to_z-of_z}
 use Rattle.asm.specs.Assemble.{value_in}
-use borrow.Author.Rules.{rules}
 use Rattle.asm.proofs.lines.value_in.Goals as goal
 
 pub returns-in-Is : goal.returns-in-Is

@@ -3,7 +3,6 @@ use Rattle.forms.proofs.Cuts.{cut_there}
 use mathlib.Core.Path.{ap}
 use Rattle.forms.specs.Form.{what_at, what_of}
 use Rattle.forms.proofs.Mnemonics.{place_found}
-use borrow.Author.Rules.{rules}
 use Rattle.asm.proofs.lines.what_in.Goals as goal
 
 pub part-requires : goal.part-requires

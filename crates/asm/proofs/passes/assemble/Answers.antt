@@ -1,12 +1,8 @@
-use mathlib.Core.Path.{sym, ap, ◌∙◌}
-use native.Mathlib.Omega.{arith}
-use lib.Seq.{length-take-le}
+use mathlib.Core.Path.{ap, ◌∙◌}
 use Rattle.expr.specs.Expr.{Labels}
 use Rattle.forms.specs.Form.{lines_of}
 use Rattle.asm.specs.Assemble.{verdict_in, assembled_of}
 use Rattle.asm.specs.Parts.{assembled_with}
-use Rattle.asm.proofs.Laws.{not_outside}
-use borrow.Author.Rules.{rules}
 use Rattle.asm.proofs.passes.assemble.Goals as goal
 
 pub returns-then-is_outside : goal.returns-then-is_outside

@@ -4,7 +4,6 @@ use Rattle.forms.specs.Form.{lines_of}
 use Rattle.asm.specs.Assemble.{address_of, code_of, answered, image_after}
 use Rattle.asm.specs.Parts.{assembled_with}
 use Rattle.asm.specs.declared.Assembled.{Assembled}
-use borrow.Author.Rules.{rules}
 use Rattle.asm.proofs.passes.assemble_with.Goals as goal
 
 pub returns : goal.returns

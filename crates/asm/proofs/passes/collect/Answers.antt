@@ -1,14 +1,7 @@
-use Prim.Native.Nat.{◌+◌, ◌-◌, ◌^◌, ◌<◌, ◌≤◌}
-use mathlib.Core.Path.{◌≡◌, refl, sym, ◌∙◌}
-use mathlib.Core.Bool.{◌&&◌}
+use Prim.Native.Nat.{◌+◌, ◌-◌, ◌^◌, ◌<◌}
+use mathlib.Core.Path.{sym, ◌∙◌}
 use native.Mathlib.Omega.{arith}
-use lib.ListN.{length, take, drop}
-use borrow.Author.Rules.{rules}
-use Rattle.expr.specs.Expr.{labels, none}
-use Rattle.forms.specs.Form.{lines_of}
 use Rattle.forms.proofs.Cuts.{line_next}
-use Rattle.asm.specs.Parts.{all_known}
-use Rattle.asm.specs.Assemble.{address_of, labels_of}
 use Rattle.asm.proofs.Laws.{labels_on, labels_end, known_on, known_end}
 use Rattle.asm.proofs.passes.collect.Goals as goal
 

@@ -1,14 +1,11 @@
-use Prim.Native.Nat.{◌+◌, ◌-◌, ◌^◌, ◌<◌, ◌≤◌}
-use mathlib.Core.Path.{◌≡◌, refl, sym, ◌∙◌}
+use Prim.Native.Nat.{◌-◌, ◌^◌, ◌<◌, ◌≤◌}
+use mathlib.Core.Path.{◌≡◌}
 use mathlib.Core.Bool.{◌&&◌}
-use native.Mathlib.Omega.{arith}
 use lib.ListN.{length, take, drop}
 use Rattle.expr.specs.Expr.{labels, none}
 use Rattle.forms.specs.Form.{lines_of}
-use Rattle.forms.proofs.Cuts.{line_next}
 use Rattle.asm.specs.Parts.{all_known}
 use Rattle.asm.specs.Assemble.{address_of, labels_of}
-use Rattle.asm.proofs.Laws.{labels_on, labels_end, known_on, known_end}
 use Rattle.asm.proofs.passes.collect.Given as goal
 
 abbrev pub invariant-loop-at : goal.invariant-loop-at

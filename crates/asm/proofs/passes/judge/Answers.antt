@@ -1,20 +1,15 @@
-use Prim.Native.Nat.{◌+◌, ◌-◌, ◌^◌, ◌<◌, ◌≤◌}
-use mathlib.Core.Path.{◌≡◌, refl, sym, ap₂, ◌∙◌}
+use Prim.Native.Nat.{◌+◌, ◌-◌, ◌^◌, ◌<◌}
+use mathlib.Core.Path.{sym, ap₂, ◌∙◌}
 use mathlib.Core.Bool.{true}
-use mathlib.Core.List.{[]}
 use native.Mathlib.Numerals.{add-one}
 use native.Mathlib.Omega.{arith}
-use lib.ListN.{length, take, drop}
-use lib.Seq.{length-take-le}
-use borrow.Author.Rules.{rules}
+use lib.ListN.{take}
 use Rattle.word.specs.declared.ByteAddr.{ByteAddr}
 use Rattle.expr.specs.Expr.{labels}
-use Rattle.forms.specs.Form.{lines_of}
 use Rattle.forms.specs.Parts.{first_line}
 use Rattle.forms.proofs.Cuts.{line_next}
 use Rattle.asm.specs.declared.Checked.{Checked}
-use Rattle.asm.specs.Parts.{all_known, check_sure}
-use Rattle.asm.specs.Assemble.{verdict_of}
+use Rattle.asm.specs.Parts.{check_sure}
 use Rattle.asm.proofs.Laws.{fine_room, verdict_on, verdict_stops, verdict_end, first_known, rest_known, sure_check}
 use Rattle.asm.proofs.passes.judge.Goals as goal
 

@@ -1,5 +1,4 @@
 use Rattle.asm.specs.Assemble.{label_for}
-use borrow.Author.Rules.{rules}
 use Rattle.asm.proofs.passes.label_for.Goals as goal
 
 pub returns-then-known : goal.returns-then-known

@@ -1,6 +1,5 @@
 use Rattle.forms.specs.Says.{bytes_in}
 use Rattle.text.specs.Pages.{write_on}
-use borrow.Author.Rules.{rules}
 use Rattle.asm.proofs.passes.put_bits.Goals as goal
 
 pub returns-in-Half : goal.returns-in-Half

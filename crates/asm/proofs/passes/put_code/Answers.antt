@@ -1,13 +1,8 @@
-use Prim.Native.Nat.{◌+◌, ◌-◌, ◌^◌, ◌<◌, ◌≤◌}
-use mathlib.Core.Path.{◌≡◌, refl, sym, ◌∙◌}
+use Prim.Native.Nat.{◌+◌, ◌-◌, ◌^◌, ◌<◌}
+use mathlib.Core.Path.{sym, ◌∙◌}
 use native.Mathlib.Omega.{arith}
-use lib.ListN.{length, drop}
 use borrow.Author.Rules.{rules}
-use Rattle.text.specs.Pages.{page, write_on}
-use Rattle.expr.specs.Expr.{labels}
-use Rattle.forms.specs.Form.{lines_of}
 use Rattle.forms.proofs.Cuts.{line_next}
-use Rattle.asm.specs.Assemble.{address_of, code_of}
 use Rattle.asm.proofs.Laws.{code_on, code_end}
 use Rattle.asm.proofs.passes.put_code.Goals as goal
 

@@ -1,13 +1,10 @@
-use Prim.Native.Nat.{◌+◌, ◌-◌, ◌^◌, ◌<◌, ◌≤◌}
-use mathlib.Core.Path.{◌≡◌, refl, sym, ◌∙◌}
-use native.Mathlib.Omega.{arith}
+use Prim.Native.Nat.{◌-◌, ◌^◌, ◌<◌, ◌≤◌}
+use mathlib.Core.Path.{◌≡◌}
 use lib.ListN.{length, drop}
 use Rattle.text.specs.Pages.{page, write_on}
 use Rattle.expr.specs.Expr.{labels}
 use Rattle.forms.specs.Form.{lines_of}
-use Rattle.forms.proofs.Cuts.{line_next}
 use Rattle.asm.specs.Assemble.{address_of, code_of}
-use Rattle.asm.proofs.Laws.{code_on, code_end}
 use Rattle.asm.proofs.passes.put_code.Given as goal
 
 abbrev pub invariant-loop-at : goal.invariant-loop-at

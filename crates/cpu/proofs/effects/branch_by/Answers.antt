@@ -1,5 +1,4 @@
 use Rattle.cpu.specs.Exec.{branch}
-use Rattle.std.proofs.Common.{rules}
 use Rattle.cpu.proofs.effects.branch_by.Goals as goal
 
 pub returns-then-is_wanted : goal.returns-then-is_wanted

@@ -1,5 +1,4 @@
 use Rattle.cpu.specs.Exec.{onward}
-use Rattle.std.proofs.Common.{rules}
 use Rattle.cpu.proofs.effects.go_on.Goals as goal
 
 pub returns : goal.returns

@@ -1,5 +1,4 @@
 use Rattle.cpu.specs.Exec.{go_to}
-use Rattle.std.proofs.Common.{rules}
 use Rattle.cpu.proofs.effects.go_to.Goals as goal
 
 pub returns : goal.returns

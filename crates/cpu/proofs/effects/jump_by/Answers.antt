@@ -1,5 +1,4 @@
 use Rattle.cpu.specs.Exec.{jump}
-use Rattle.std.proofs.Common.{rules}
 use Rattle.cpu.proofs.effects.jump_by.Goals as goal
 
 pub returns : goal.returns

@@ -1,5 +1,4 @@
 use Rattle.cpu.specs.Exec.{linked}
-use Rattle.std.proofs.Common.{rules}
 use Rattle.cpu.proofs.effects.link.Goals as goal
 
 pub returns : goal.returns

@@ -1,5 +1,4 @@
 use Rattle.cpu.specs.Entries.{entered}
-use Rattle.std.proofs.Common.{rules}
 use Rattle.cpu.proofs.entries.data_error.Goals as goal
 
 pub returns : goal.returns

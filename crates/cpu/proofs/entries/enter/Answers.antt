@@ -1,5 +1,4 @@
 use Rattle.cpu.specs.Entries.{entered}
-use Rattle.std.proofs.Common.{rules}
 use Rattle.cpu.proofs.entries.enter.Goals as goal
 
 pub returns-in-Nothing : goal.returns-in-Nothing

@@ -1,5 +1,4 @@
 use Rattle.cpu.specs.Entries.{enter}
-use Rattle.std.proofs.Common.{rules}
 use Rattle.cpu.proofs.entries.enter_at.Goals as goal
 
 pub returns : goal.returns

@@ -1,5 +1,4 @@
 use Rattle.cpu.specs.Cycles.{entry_cost}
-use Rattle.std.proofs.Common.{rules}
 use Rattle.cpu.proofs.entries.entry_cost.Goals as goal
 
 pub returns-in-Nothing : goal.returns-in-Nothing

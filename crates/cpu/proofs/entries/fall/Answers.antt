@@ -1,4 +1,4 @@
-use Rattle.std.proofs.Common.{rules, lt-ltb}
+use Rattle.std.proofs.Common.{lt-ltb}
 use Rattle.cpu.specs.Entries.{fallen}
 use Rattle.isa.proofs.Rows.{rest_past}
 use Rattle.cpu.proofs.entries.fall.Goals as goal

@@ -1,5 +1,4 @@
 use Rattle.cpu.specs.Entries.{is_break}
-use Rattle.std.proofs.Common.{rules}
 use Rattle.cpu.proofs.entries.has_break.Goals as goal
 
 pub returns : goal.returns

@@ -1,5 +1,4 @@
 use Rattle.cpu.specs.Entries.{passed}
-use Rattle.std.proofs.Common.{rules}
 use Rattle.cpu.proofs.entries.pass.Goals as goal
 
 pub returns : goal.returns

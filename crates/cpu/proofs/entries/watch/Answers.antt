@@ -1,4 +1,4 @@
-use Rattle.std.proofs.Common.{sym, ◌∙◌, rules, le-ltb, lt-ltb}
+use Rattle.std.proofs.Common.{sym, ◌∙◌, le-ltb, lt-ltb}
 use Rattle.cpu.specs.Entries.{watch_entry}
 use Rattle.cpu.proofs.Laws.{unwatched}
 use Rattle.cpu.proofs.entries.watch.Goals as goal

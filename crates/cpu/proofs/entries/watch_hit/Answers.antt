@@ -1,5 +1,4 @@
 use Rattle.cpu.specs.Entries.{watch_hit}
-use Rattle.std.proofs.Common.{rules}
 use Rattle.cpu.proofs.entries.watch_hit.Goals as goal
 
 pub returns : goal.returns

@@ -1,6 +1,5 @@
 use Rattle.cpu.proofs.Laws.{offset}
 use Rattle.cpu.specs.Exec.{data_address}
-use Rattle.std.proofs.Common.{rules}
 use Rattle.cpu.proofs.operands.data_address.Goals as goal
 
 pub returns : goal.returns

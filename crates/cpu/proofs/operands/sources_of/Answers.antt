@@ -1,5 +1,4 @@
 use Rattle.cpu.specs.Exec.{sources_of}
-use Rattle.std.proofs.Common.{rules}
 use Rattle.cpu.proofs.operands.sources_of.Goals as goal
 
 pub returns-in-Alu : goal.returns-in-Alu

@@ -1,5 +1,4 @@
 use Rattle.cpu.specs.Exec.{psw_written}
-use Rattle.std.proofs.Common.{rules}
 use Rattle.cpu.proofs.system.keep_psw.Goals as goal
 
 pub returns : goal.returns

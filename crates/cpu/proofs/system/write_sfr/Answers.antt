@@ -1,4 +1,4 @@
-use Rattle.std.proofs.Common.{rules, eq-eqb, ne_eqb}
+use Rattle.std.proofs.Common.{eq-eqb, ne_eqb}
 use Rattle.cpu.specs.Exec.{written}
 use Rattle.cpu.proofs.system.write_sfr.Goals as goal
 

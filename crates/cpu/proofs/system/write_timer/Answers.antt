@@ -1,5 +1,4 @@
 use Rattle.cpu.specs.Exec.{timer_written}
-use Rattle.std.proofs.Common.{rules}
 use Rattle.cpu.proofs.system.write_timer.Goals as goal
 
 pub returns-then-is_accepted : goal.returns-then-is_accepted

@@ -1,6 +1,5 @@
 use Rattle.cpu.specs.Exec.{alu_of, carried, makes, exec}
 use Rattle.cpu.specs.Cycles.{alu_cost, cost_of}
-use Rattle.std.proofs.Common.{rules}
 use Rattle.cpu.proofs.values.alu.Goals as goal
 
 pub returns-in-Sub : goal.returns-in-Sub

@@ -1,7 +1,6 @@
 use Rattle.cpu.specs.Exec.{cmp_imm_of}
 use Rattle.cpu.specs.Exec.{makes, exec}
 use Rattle.cpu.specs.Cycles.{cost_of}
-use Rattle.std.proofs.Common.{rules}
 use Rattle.cpu.proofs.values.compare_imm.Goals as goal
 
 pub returns-in-Eq : goal.returns-in-Eq

@@ -1,5 +1,4 @@
 use Rattle.cpu.specs.Exec.{cond_of}
-use Rattle.std.proofs.Common.{rules}
 use Rattle.cpu.proofs.values.conditional.Goals as goal
 
 pub returns-in-Mov : goal.returns-in-Mov

@@ -1,7 +1,6 @@
 use Rattle.cpu.specs.Exec.{imm_value}
 use Rattle.cpu.specs.Exec.{makes, exec}
 use Rattle.cpu.specs.Cycles.{cost_of}
-use Rattle.std.proofs.Common.{rules}
 use Rattle.cpu.proofs.values.immediate.Goals as goal
 
 pub returns-in-And : goal.returns-in-And

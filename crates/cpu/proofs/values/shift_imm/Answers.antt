@@ -1,6 +1,5 @@
 use Rattle.cpu.specs.Exec.{shift_of, makes, exec}
 use Rattle.cpu.specs.Cycles.{shift_imm_cost, cost_of}
-use Rattle.std.proofs.Common.{rules}
 use Rattle.cpu.proofs.values.shift_imm.Goals as goal
 
 pub returns-in-Lsl : goal.returns-in-Lsl

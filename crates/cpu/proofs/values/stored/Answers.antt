@@ -1,6 +1,5 @@
 use Rattle.cpu.specs.Exec.{makes, exec}
 use Rattle.cpu.specs.Cycles.{cost_of}
-use Rattle.std.proofs.Common.{rules}
 use Rattle.cpu.proofs.values.stored.Goals as goal
 
 pub returns : goal.returns

@@ -1,5 +1,4 @@
 use Rattle.forms.specs.Parts.{to_at, from_at, cut_in}
-use borrow.Author.Rules.{rules}
 use Rattle.forms.proofs.fields.cut_line.Goals as goal
 
 pub returns : goal.returns

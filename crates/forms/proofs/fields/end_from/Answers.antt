@@ -1,8 +1,5 @@
 use Prim.Native.Nat.{◌-◌}
-use mathlib.Core.Path.{◌≡◌, refl, ◌∙◌}
-use lib.ListN.{length}
-use borrow.Author.Rules.{rules}
-use Rattle.forms.specs.Parts.{end_at}
+use mathlib.Core.Path.{◌∙◌}
 use Rattle.forms.proofs.Laws.{end_there, end_on, end_none}
 use Rattle.forms.proofs.fields.end_from.Goals as goal
 

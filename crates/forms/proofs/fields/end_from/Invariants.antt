@@ -1,8 +1,7 @@
 use Prim.Native.Nat.{◌-◌}
-use mathlib.Core.Path.{◌≡◌, refl, ◌∙◌}
+use mathlib.Core.Path.{◌≡◌}
 use lib.ListN.{length}
 use Rattle.forms.specs.Parts.{end_at}
-use Rattle.forms.proofs.Laws.{end_there, end_on, end_none}
 use Rattle.forms.proofs.fields.end_from.Given as goal
 
 abbrev pub invariant-loop-i : goal.invariant-loop-i

@@ -2,7 +2,6 @@ use native.Mathlib.Numerals.{add-one}
 use Rattle.forms.proofs.Laws.{past_none}
 use borrow.Author.Tests.{eq-eqb, ne_eqb}
 use Rattle.forms.specs.Parts.{past_tab}
-use borrow.Author.Rules.{rules}
 use Rattle.forms.proofs.fields.past_tab.Goals as goal
 
 pub returns-then-t-at-eq9 : goal.returns-then-t-at-eq9

@@ -1,8 +1,5 @@
 use Prim.Native.Nat.{◌-◌}
-use mathlib.Core.Path.{◌≡◌, refl, ◌∙◌}
-use lib.ListN.{length}
-use borrow.Author.Rules.{rules}
-use Rattle.forms.specs.Parts.{stop_at}
+use mathlib.Core.Path.{◌∙◌}
 use Rattle.forms.proofs.Laws.{stop_tab, stop_newline, stop_on, stop_none}
 use Rattle.forms.proofs.fields.stop_from.Goals as goal
 

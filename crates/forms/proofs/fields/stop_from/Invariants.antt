@@ -1,8 +1,7 @@
 use Prim.Native.Nat.{◌-◌}
-use mathlib.Core.Path.{◌≡◌, refl, ◌∙◌}
+use mathlib.Core.Path.{◌≡◌}
 use lib.ListN.{length}
 use Rattle.forms.specs.Parts.{stop_at}
-use Rattle.forms.proofs.Laws.{stop_tab, stop_newline, stop_on, stop_none}
 use Rattle.forms.proofs.fields.stop_from.Given as goal
 
 abbrev pub invariant-loop-i : goal.invariant-loop-i

@@ -1,8 +1,5 @@
-use Prim.Native.Nat.{◌+◌, ◌-◌, ◌≤◌}
-use mathlib.Core.Path.{◌≡◌}
+use Prim.Native.Nat.{◌-◌}
 use native.Mathlib.Omega.{arith}
-use lib.ListN.{length, drop}
-use borrow.Author.Rules.{rules}
 use Rattle.forms.specs.Form.{tabs_in}
 use Rattle.forms.proofs.Laws.{tabs_on, tabs_none}
 use Rattle.forms.proofs.fields.tabs_in.Goals as goal

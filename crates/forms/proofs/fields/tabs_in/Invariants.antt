@@ -1,9 +1,7 @@
 use Prim.Native.Nat.{◌+◌, ◌-◌, ◌≤◌}
 use mathlib.Core.Path.{◌≡◌}
-use native.Mathlib.Omega.{arith}
 use lib.ListN.{length, drop}
 use Rattle.forms.specs.Form.{tabs_in}
-use Rattle.forms.proofs.Laws.{tabs_on, tabs_none}
 use Rattle.forms.proofs.fields.tabs_in.Given as goal
 
 abbrev pub invariant-loop-i : goal.invariant-loop-i

@@ -1,5 +1,4 @@
 use Rattle.forms.specs.Form.{is_of}
-use borrow.Author.Rules.{rules}
 use Rattle.forms.proofs.form.is_of.Goals as goal
 
 pub returns-in-Nothing : goal.returns-in-Nothing

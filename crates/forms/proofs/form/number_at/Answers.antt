@@ -1,5 +1,4 @@
 use Rattle.forms.specs.Form.{number_at}
-use borrow.Author.Rules.{rules}
 use Rattle.forms.proofs.form.number_at.Goals as goal
 
 pub returns-in-Nothing : goal.returns-in-Nothing

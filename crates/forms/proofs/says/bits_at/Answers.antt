@@ -1,6 +1,5 @@
 use borrow.Author.Tests.{lt-ltb, le-ltb}
 use Rattle.forms.specs.Says.{bits_at}
-use borrow.Author.Rules.{rules}
 use Rattle.forms.proofs.says.bits_at.Goals as goal
 
 pub returns-in-Code : goal.returns-in-Code

@@ -1,5 +1,4 @@
-use native.Mathlib.Omega.{arith}
-use Rattle.forms.proofs.Laws.{turned, turned_again, its_bits, whole, whole_bits}
+use Rattle.forms.proofs.Laws.{turned_again, its_bits, whole_bits}
 use Rattle.forms.proofs.says.bits_of.Goals as goal
 
 pub returns-then-z-lt0 : goal.returns-then-z-lt0

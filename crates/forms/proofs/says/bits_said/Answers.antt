@@ -1,5 +1,4 @@
 use Rattle.forms.specs.Says.{bits_said}
-use borrow.Author.Rules.{rules}
 use Rattle.forms.proofs.says.bits_said.Goals as goal
 
 pub returns-in-Short : goal.returns-in-Short

@@ -1,6 +1,5 @@
 use borrow.Author.Tests.{eq-eqb, ne_eqb}
 use Rattle.forms.specs.Says.{halves_to}
-use borrow.Author.Rules.{rules}
 use Rattle.forms.proofs.says.halves_to.Goals as goal
 
 pub returns-then-far-eq0 : goal.returns-then-far-eq0

@@ -1,5 +1,4 @@
 use Rattle.forms.specs.Says.{says_of}
-use borrow.Author.Rules.{rules}
 use Rattle.forms.proofs.says.says.Goals as goal
 
 pub returns-in-Nothing : goal.returns-in-Nothing

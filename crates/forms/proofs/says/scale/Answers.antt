@@ -3,7 +3,6 @@ use mathlib.Core.Path.{◌≡◌}
 use native.Mathlib.Omega.{arith}
 use borrow.Author.Tests.{eq-eqb, ne_eqb}
 use Rattle.forms.specs.Says.{scaled}
-use borrow.Author.Rules.{rules}
 use Rattle.forms.proofs.says.scale.Goals as goal
 
 pub returns-in-Byte : goal.returns-in-Byte

@@ -1,6 +1,5 @@
 use borrow.Author.Tests.{eq-eqb, ne_eqb}
 use Rattle.forms.specs.Says.{words_to}
-use borrow.Author.Rules.{rules}
 use Rattle.forms.proofs.says.words_to.Goals as goal
 
 pub returns-then-v-eq0 : goal.returns-then-v-eq0

@@ -1,6 +1,5 @@
 use borrow.Author.Tests.{lt-ltb, le-ltb}
 use Rattle.forms.specs.Form.{byte_of}
-use borrow.Author.Rules.{rules}
 use Rattle.forms.proofs.shapes.byte_of.Goals as goal
 
 pub returns-then-place-lt64 : goal.returns-then-place-lt64

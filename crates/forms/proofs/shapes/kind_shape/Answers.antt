@@ -1,5 +1,4 @@
 use Rattle.forms.specs.Form.{kind_shape}
-use borrow.Author.Rules.{rules}
 use Rattle.forms.proofs.shapes.kind_shape.Goals as goal
 
 pub returns-in-Nothing : goal.returns-in-Nothing

@@ -1,5 +1,4 @@
 use Rattle.forms.specs.Form.{numbered_of}
-use borrow.Author.Rules.{rules}
 use Rattle.forms.proofs.shapes.numbered.Goals as goal
 
 pub returns-then-is_same : goal.returns-then-is_same

@@ -1,6 +1,5 @@
 use borrow.Author.Tests.{eq-eqb, ne_eqb}
 use Rattle.forms.specs.Parts.{place_in}
-use borrow.Author.Rules.{rules}
 use Rattle.forms.proofs.shapes.place_in.Goals as goal
 
 pub returns-then-entry-k : goal.returns-then-entry-k

@@ -1,6 +1,5 @@
 use borrow.Author.Tests.{eq-eqb, ne_eqb}
 use Rattle.forms.specs.Parts.{with_entry}
-use borrow.Author.Rules.{rules}
 use Rattle.forms.proofs.shapes.put_entry.Goals as goal
 
 pub returns-then-k-eq0 : goal.returns-then-k-eq0

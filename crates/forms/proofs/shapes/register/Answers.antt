@@ -1,6 +1,5 @@
 use native.Mathlib.Omega.{arith}
 use Rattle.forms.proofs.Registers.{other_letter, one_digit, two_digits}
-use borrow.Author.Rules.{rules}
 use Rattle.forms.proofs.shapes.register.Goals as goal
 
 pub returns-then-field-eq114 : goal.returns-then-field-eq114

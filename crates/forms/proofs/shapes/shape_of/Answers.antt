@@ -1,5 +1,4 @@
 use Rattle.forms.specs.Form.{shape_of}
-use borrow.Author.Rules.{rules}
 use Rattle.forms.proofs.shapes.shape_of.Goals as goal
 
 pub returns-in-Code : goal.returns-in-Code

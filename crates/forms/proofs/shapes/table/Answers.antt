@@ -1,10 +1,8 @@
-use Prim.Native.Nat.{◌-◌, ◌<◌, ◌≤◌}
-use mathlib.Core.Path.{◌≡◌, sym, ◌∙◌}
+use Prim.Native.Nat.{◌-◌, ◌<◌}
+use mathlib.Core.Path.{sym, ◌∙◌}
 use native.Mathlib.Omega.{arith}
-use lib.ListN.{length, drop}
-use borrow.Author.Rules.{rules}
-use Rattle.forms.specs.Form.{mnemonics}
-use Rattle.forms.specs.Parts.{entered, slots}
+use lib.ListN.{length}
+use Rattle.forms.specs.Parts.{slots}
 use Rattle.forms.proofs.Laws.{entered_on, entered_end}
 use Rattle.forms.proofs.Mnemonics.{all_names, few_letters}
 use Rattle.forms.proofs.shapes.table.Goals as goal

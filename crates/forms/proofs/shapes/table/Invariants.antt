@@ -1,11 +1,8 @@
-use Prim.Native.Nat.{◌-◌, ◌<◌, ◌≤◌}
-use mathlib.Core.Path.{◌≡◌, sym, ◌∙◌}
-use native.Mathlib.Omega.{arith}
-use lib.ListN.{length, drop}
+use Prim.Native.Nat.{◌-◌, ◌≤◌}
+use mathlib.Core.Path.{◌≡◌}
+use lib.ListN.{drop}
 use Rattle.forms.specs.Form.{mnemonics}
 use Rattle.forms.specs.Parts.{entered, slots}
-use Rattle.forms.proofs.Laws.{entered_on, entered_end}
-use Rattle.forms.proofs.Mnemonics.{all_names, few_letters}
 use Rattle.forms.proofs.shapes.table.Given as goal
 
 abbrev pub invariant-loop-place : goal.invariant-loop-place

@@ -1,6 +1,5 @@
 use borrow.Author.Tests.{lt-ltb, le-ltb, eq-eqb, ne_eqb}
 use Rattle.forms.specs.Form.{what_at}
-use borrow.Author.Rules.{rules}
 use Rattle.forms.proofs.shapes.what_at.Goals as goal
 
 pub returns-then-place-lt81 : goal.returns-then-place-lt81

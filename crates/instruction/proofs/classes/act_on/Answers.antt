@@ -3,7 +3,6 @@ use Rattle.cpu.specs.Cycles.{cost_of}
 use Rattle.marks.specs.Marks.{taint, blocked}
 use Rattle.instruction.specs.Act.{reach_of}
 use Rattle.instruction.specs.Act.{act_of}
-use borrow.Author.Rules.{rules}
 use Rattle.instruction.proofs.classes.act_on.Goals as goal
 
 pub returns-in-Alu : goal.returns-in-Alu

@@ -1,7 +1,6 @@
 use Rattle.cpu.specs.Exec.{makes, exec}
 use Rattle.cpu.specs.Cycles.{cost_of}
 use Rattle.marks.specs.Marks.{taint}
-use borrow.Author.Rules.{rules}
 use Rattle.instruction.proofs.classes.conditional_on.Goals as goal
 
 pub returns : goal.returns

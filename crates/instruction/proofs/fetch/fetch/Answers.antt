@@ -1,5 +1,4 @@
 use Rattle.instruction.proofs.Laws.{fetch_by_parts}
-use borrow.Author.Rules.{rules}
 use Rattle.instruction.proofs.fetch.fetch.Goals as goal
 
 pub returns-in-Halted : goal.returns-in-Halted

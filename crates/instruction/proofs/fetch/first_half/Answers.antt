@@ -1,5 +1,4 @@
 use Rattle.instruction.specs.Parts.{first_half}
-use borrow.Author.Rules.{rules}
 use Rattle.instruction.proofs.fetch.first_half.Goals as goal
 
 pub returns-then-is_odd : goal.returns-then-is_odd

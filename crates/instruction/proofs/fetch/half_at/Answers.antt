@@ -1,6 +1,5 @@
 use Rattle.instruction.specs.Fetch.{half_at}
 use Rattle.word.proofs.Memory.{half_lt}
-use borrow.Author.Rules.{rules}
 use Rattle.instruction.proofs.fetch.half_at.Goals as goal
 
 pub overflow_cast-result : goal.overflow_cast-result

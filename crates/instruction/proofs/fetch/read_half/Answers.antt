@@ -1,5 +1,4 @@
 use Rattle.instruction.specs.Parts.{half_of}
-use borrow.Author.Rules.{rules}
 use Rattle.instruction.proofs.fetch.read_half.Goals as goal
 
 pub returns-then-is_marked : goal.returns-then-is_marked

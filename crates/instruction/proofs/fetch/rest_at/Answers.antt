@@ -1,6 +1,5 @@
 use mathlib.Core.Path.{sym, ◌∙◌}
 use Rattle.instruction.proofs.Laws.{by_second_lem}
-use borrow.Author.Rules.{rules}
 use Rattle.instruction.proofs.fetch.rest_at.Goals as goal
 
 pub returns-in-Halted : goal.returns-in-Halted

@@ -1,5 +1,4 @@
 use Rattle.instruction.specs.Parts.{second_half}
-use borrow.Author.Rules.{rules}
 use Rattle.instruction.proofs.fetch.second_half.Goals as goal
 
 pub returns-then-is_long : goal.returns-then-is_long

@@ -1,5 +1,4 @@
 use Rattle.isa.specs.Decode.{decode_of}
-use borrow.Author.Rules.{rules}
 use Rattle.isa.proofs.decoder.decode.Goals as goal
 
 pub returns : goal.returns

@@ -1,5 +1,4 @@
 use Rattle.isa.specs.Decode.{operands_of}
-use borrow.Author.Rules.{rules}
 use Rattle.isa.proofs.decoder.operands.Goals as goal
 
 pub returns-in-Nothing : goal.returns-in-Nothing

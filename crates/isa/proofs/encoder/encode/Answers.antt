@@ -1,5 +1,4 @@
 use Rattle.isa.specs.Encode.{encode_of}
-use borrow.Author.Rules.{rules}
 use Rattle.isa.proofs.encoder.encode.Goals as goal
 
 pub returns-in-Alu : goal.returns-in-Alu

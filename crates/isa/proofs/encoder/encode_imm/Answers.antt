@@ -1,5 +1,4 @@
 use Rattle.isa.specs.Encode.{encode_imm}
-use borrow.Author.Rules.{rules}
 use Rattle.isa.proofs.encoder.encode_imm.Goals as goal
 
 pub returns-in-And : goal.returns-in-And

@@ -1,5 +1,4 @@
 use Rattle.isa.specs.Encode.{encode_long}
-use borrow.Author.Rules.{rules}
 use Rattle.isa.proofs.encoder.encode_long.Goals as goal
 
 pub returns : goal.returns

@@ -1,5 +1,4 @@
 use Rattle.isa.specs.Encode.{encode_short}
-use borrow.Author.Rules.{rules}
 use Rattle.isa.proofs.encoder.encode_short.Goals as goal
 
 pub returns : goal.returns

@@ -1,6 +1,5 @@
 use Rattle.isa.specs.Encode.{nibs_of}
 use borrow.Author.Tests.{lt-ltb, le-ltb}
-use borrow.Author.Rules.{rules}
 use Rattle.isa.proofs.encoder.nibs.Goals as goal
 
 pub returns-then-a-ge16 : goal.returns-then-a-ge16

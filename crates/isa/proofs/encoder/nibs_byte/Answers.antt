@@ -1,5 +1,4 @@
 use Rattle.isa.specs.Encode.{nibs_byte}
-use borrow.Author.Rules.{rules}
 use Rattle.isa.proofs.encoder.nibs_byte.Goals as goal
 
 pub returns : goal.returns

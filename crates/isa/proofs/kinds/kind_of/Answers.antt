@@ -4,7 +4,6 @@ use mathlib.Core.Path.{◌≡◌}
 use Rattle.isa.proofs.Rows.{upper}
 use borrow.Author.Tests.{lt-ltb, le-ltb}
 use Rattle.isa.specs.Codes.{kind_of}
-use borrow.Author.Rules.{rules}
 use Rattle.isa.proofs.kinds.kind_of.Goals as goal
 
 pub returns-then-byte-lt16 : goal.returns-then-byte-lt16

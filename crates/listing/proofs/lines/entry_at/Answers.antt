@@ -1,5 +1,4 @@
 use Rattle.listing.specs.Listing.{entry_at}
-use borrow.Author.Rules.{rules}
 use Rattle.listing.proofs.lines.entry_at.Goals as goal
 
 pub returns : goal.returns

@@ -1,5 +1,4 @@
 use Rattle.word.proofs.Memory.{half_lt}
-use borrow.Author.Rules.{rules}
 use Rattle.listing.proofs.lines.half_in.Goals as goal
 
 pub overflow_cast-result : goal.overflow_cast-result

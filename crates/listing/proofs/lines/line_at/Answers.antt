@@ -1,5 +1,4 @@
 use Rattle.listing.proofs.Ranged.{line_made}
-use borrow.Author.Rules.{rules}
 use Rattle.listing.proofs.lines.line_at.Goals as goal
 
 pub returns : goal.returns

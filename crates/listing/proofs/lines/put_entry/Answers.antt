@@ -1,5 +1,4 @@
 use Rattle.listing.proofs.Laws.{line_written}
-use borrow.Author.Rules.{rules}
 use Rattle.listing.proofs.lines.put_entry.Goals as goal
 
 pub returns : goal.returns

@@ -1,5 +1,4 @@
 use Rattle.listing.proofs.Laws.{head_digits}
-use borrow.Author.Rules.{rules}
 use Rattle.listing.proofs.lines.put_head.Goals as goal
 
 pub returns : goal.returns

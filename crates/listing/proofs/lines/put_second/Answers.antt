@@ -1,5 +1,4 @@
 use Rattle.text.specs.Pages.{write_on}
-use borrow.Author.Rules.{rules}
 use Rattle.listing.proofs.lines.put_second.Goals as goal
 
 pub returns : goal.returns

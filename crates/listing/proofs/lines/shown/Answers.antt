@@ -1,5 +1,4 @@
 use Rattle.listing.specs.Listing.{shown_of}
-use borrow.Author.Rules.{rules}
 use Rattle.listing.proofs.lines.shown.Goals as goal
 
 pub returns-in-Short : goal.returns-in-Short

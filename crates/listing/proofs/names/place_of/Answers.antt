@@ -1,6 +1,5 @@
 use borrow.Author.Tests.{lt-ltb, le-ltb}
 use Rattle.listing.specs.Names.{place_of}
-use borrow.Author.Rules.{rules}
 use Rattle.listing.proofs.names.place_of.Goals as goal
 
 pub returns-then-n-lt64 : goal.returns-then-n-lt64

@@ -1,11 +1,7 @@
 use borrow.Author.Rules.{rules}
 use Rattle.listing.proofs.Laws.{name_more, name_blank, name_past, name_done, name_first}
-use Rattle.listing.specs.Names.{letters_in, name_at}
-use Rattle.text.specs.Pages.{page, write_on}
-use lib.ListN.{length, drop}
-use mathlib.Core.Path.{◌≡◌, refl, sym, ◌∙◌}
-use Prim.Native.Nat.{◌+◌, ◌*◌, ◌-◌}
-use native.Mathlib.Omega.{arith}
+use mathlib.Core.Path.{refl, sym, ◌∙◌}
+use Prim.Native.Nat.{◌-◌}
 use Rattle.listing.proofs.names.put_name.Goals as goal
 
 pub loop-i-init : goal.loop-i-init

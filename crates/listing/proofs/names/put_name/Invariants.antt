@@ -1,10 +1,8 @@
-use Rattle.listing.proofs.Laws.{name_more, name_blank, name_past, name_done, name_first}
 use Rattle.listing.specs.Names.{letters_in, name_at}
 use Rattle.text.specs.Pages.{page, write_on}
 use lib.ListN.{length, drop}
-use mathlib.Core.Path.{◌≡◌, refl, sym, ◌∙◌}
+use mathlib.Core.Path.{◌≡◌}
 use Prim.Native.Nat.{◌+◌, ◌*◌, ◌-◌}
-use native.Mathlib.Omega.{arith}
 use Rattle.listing.proofs.names.put_name.Given as goal
 
 abbrev pub invariant-loop-i : goal.invariant-loop-i

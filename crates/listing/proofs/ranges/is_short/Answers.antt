@@ -1,8 +1,6 @@
-use borrow.Author.Rules.{rules}
 use borrow.Author.Tests.{le-ltb}
 use Rattle.listing.proofs.Lent.{roomy}
-use lib.Dec.{ltb}
-use mathlib.Core.Path.{sym, ap}
+use mathlib.Core.Path.{sym}
 use Rattle.listing.proofs.ranges.is_short.Goals as goal
 
 pub returns-then-end-start : goal.returns-then-end-start

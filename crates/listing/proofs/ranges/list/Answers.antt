@@ -1,9 +1,5 @@
-use borrow.Author.Rules.{rules}
-use borrow.Author.Tests.{ltb-false}
-use Rattle.listing.proofs.Lent.{good, lent_out, lent_short, lent_done}
-use lib.ListN.{length}
+use Rattle.listing.proofs.Lent.{lent_out, lent_short, lent_done}
 use mathlib.Core.Path.{refl, sym, ◌∙◌}
-use native.Mathlib.Omega.{arith}
 use Rattle.listing.proofs.ranges.list.Goals as goal
 
 pub returns-then-is_out_of : goal.returns-then-is_out_of

@@ -1,11 +1,9 @@
-use Rattle.listing.proofs.Ranged.{step_short, step_long, step_kept, step_fits, place_is, next_place, kept_front, none_long}
 use Rattle.listing.specs.Listing.{listing_of}
 use Rattle.text.specs.Pages.{page, write_on}
 use lib.ListN.{length}
-use mathlib.Core.Bool.{Bool, true, false, cond}
-use mathlib.Core.Path.{◌≡◌, refl, ◌∙◌}
-use Prim.Native.Nat.{ℕ, ◌+◌, ◌-◌, ◌*◌, ◌≤◌}
-use native.Mathlib.Omega.{arith}
+use mathlib.Core.Bool.{true, cond}
+use mathlib.Core.Path.{◌≡◌}
+use Prim.Native.Nat.{◌+◌, ◌-◌, ◌*◌, ◌≤◌}
 use Rattle.listing.proofs.ranges.put_lines.Given as goal
 
 abbrev pub invariant-loop-at : goal.invariant-loop-at

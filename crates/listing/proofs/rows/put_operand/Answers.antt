@@ -1,6 +1,5 @@
 use Rattle.text.specs.Pages.{write_on}
 use Rattle.listing.specs.Listing.{operand_text}
-use borrow.Author.Rules.{rules}
 use Rattle.listing.proofs.rows.put_operand.Goals as goal
 
 pub returns-in-Sfr : goal.returns-in-Sfr

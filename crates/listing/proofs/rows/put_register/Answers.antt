@@ -1,7 +1,6 @@
 use Rattle.listing.proofs.Laws.{register_one, register_two}
 use Rattle.text.specs.Pages.{write_on}
 use Rattle.listing.specs.Listing.{operand_text}
-use borrow.Author.Rules.{rules}
 use Rattle.listing.proofs.rows.put_register.Goals as goal
 
 pub returns-then-n-lt10 : goal.returns-then-n-lt10

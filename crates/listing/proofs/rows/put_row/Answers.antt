@@ -1,7 +1,6 @@
 use mathlib.Core.Path.{sym}
 use Rattle.text.proofs.Pages.{write_append, write_three}
 use Rattle.listing.specs.Listing.{row_text}
-use borrow.Author.Rules.{rules}
 use Rattle.listing.proofs.rows.put_row.Goals as goal
 
 pub returns-in-One : goal.returns-in-One

@@ -1,5 +1,4 @@
 use Rattle.listing.specs.Listing.{row_of}
-use borrow.Author.Rules.{rules}
 use Rattle.listing.proofs.rows.row_of.Goals as goal
 
 pub returns-in-Alu : goal.returns-in-Alu

@@ -1,5 +1,4 @@
 use Rattle.machine.specs.Step.{chosen}
-use borrow.Author.Rules.{rules}
 use Rattle.machine.proofs.choice.choose_any.Goals as goal
 
 pub returns-then-both : goal.returns-then-both

@@ -1,9 +1,5 @@
-use native.Mathlib.Omega.{arith}
-use Prim.Native.Nat.{ℕ}
-use mathlib.Core.Path.{◌≡◌}
-use mathlib.Core.Bool.{true, false}
+use mathlib.Core.Bool.{true}
 use Rattle.machine.proofs.Laws.{calm}
-use borrow.Author.Rules.{rules}
 use Rattle.machine.proofs.choice.is_calm.Goals as goal
 
 pub returns-then-t-eq0 : goal.returns-then-t-eq0

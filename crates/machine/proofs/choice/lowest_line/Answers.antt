@@ -1,6 +1,5 @@
-use Rattle.machine.proofs.Lines.{count_is_lowest, lines_few}
+use Rattle.machine.proofs.Lines.{count_is_lowest}
 use Rattle.machine.specs.Step.{lowest}
-use native.Mathlib.Omega.{arith}
 use Rattle.machine.proofs.choice.lowest_line.Goals as goal
 
 pub returns-then-t-eq0 : goal.returns-then-t-eq0

@@ -1,5 +1,4 @@
 use Rattle.machine.specs.State.{out_of_form}
-use borrow.Author.Rules.{rules}
 use Rattle.machine.proofs.refusals.is_out_of_form.Goals as goal
 
 pub returns : goal.returns

@@ -1,8 +1,5 @@
-use mathlib.Core.Path.{sym}
-use lib.Seq.{length-take-le}
 use borrow.Author.Tests.{lt-ltb, le-ltb}
 use Rattle.machine.specs.Run.{judge}
-use borrow.Author.Rules.{rules}
 use Rattle.machine.proofs.refusals.judge_all.Goals as goal
 
 pub returns-then-is_bad_length : goal.returns-then-is_bad_length

@@ -3,7 +3,6 @@ use native.Mathlib.Omega.{arith}
 use Rattle.marks.specs.Memory.{bits}
 use Rattle.machine.specs.Run.{run_of}
 use Rattle.machine.proofs.Laws.{long_tape}
-use borrow.Author.Rules.{rules}
 use Rattle.machine.proofs.run.run.Goals as goal
 
 pub steps-requires : goal.steps-requires

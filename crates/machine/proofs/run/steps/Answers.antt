@@ -1,14 +1,10 @@
-use borrow.Author.Rules.{rules}
 use native.Mathlib.Omega.{arith}
-use Prim.Native.Nat.{◌-◌, ◌≤◌}
-use mathlib.Core.Path.{◌≡◌, refl, sym, ap, ◌∙◌}
+use Prim.Native.Nat.{◌-◌}
+use mathlib.Core.Path.{refl, sym, ap, ◌∙◌}
 use lib.ListN.{length, length-set}
 use lib.Seq.{set_out}
-use Rattle.marks.specs.Memory.{bits}
-use Rattle.instruction.specs.Parts.{flags}
-use Rattle.machine.specs.Parts.{state_of}
-use Rattle.machine.specs.Run.{Final, steps_of}
-use Rattle.machine.proofs.Laws.{steps_all, mark_stays, steps_end, out_stops, out_errs, out_goes}
+use Rattle.machine.specs.Run.{Final}
+use Rattle.machine.proofs.Laws.{mark_stays, steps_end, out_stops, out_errs, out_goes}
 use Rattle.machine.proofs.run.steps.Goals as goal
 
 pub returns-in-Stop : goal.returns-in-Stop

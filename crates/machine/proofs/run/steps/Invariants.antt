@@ -1,13 +1,10 @@
-use native.Mathlib.Omega.{arith}
 use Prim.Native.Nat.{◌-◌, ◌≤◌}
-use mathlib.Core.Path.{◌≡◌, refl, sym, ap, ◌∙◌}
-use lib.ListN.{length, length-set}
-use lib.Seq.{set_out}
+use mathlib.Core.Path.{◌≡◌}
+use lib.ListN.{length}
 use Rattle.marks.specs.Memory.{bits}
 use Rattle.instruction.specs.Parts.{flags}
 use Rattle.machine.specs.Parts.{state_of}
-use Rattle.machine.specs.Run.{Final, steps_of}
-use Rattle.machine.proofs.Laws.{steps_all, mark_stays, steps_end, out_stops, out_errs, out_goes}
+use Rattle.machine.specs.Run.{steps_of}
 use Rattle.machine.proofs.run.steps.Given as goal
 
 abbrev pub invariant-loop-n : goal.invariant-loop-n

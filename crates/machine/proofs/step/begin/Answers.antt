@@ -1,5 +1,4 @@
 use Rattle.machine.specs.Parts.{begun_of}
-use borrow.Author.Rules.{rules}
 use Rattle.machine.proofs.step.begin.Goals as goal
 
 pub returns-in-Enter : goal.returns-in-Enter

@@ -1,5 +1,4 @@
 use Rattle.cpu.specs.Cycles.{entry_cost}
-use borrow.Author.Rules.{rules}
 use Rattle.machine.proofs.step.cost_by.Goals as goal
 
 pub returns-in-Nowhere : goal.returns-in-Nowhere

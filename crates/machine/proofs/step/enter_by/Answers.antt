@@ -1,5 +1,4 @@
 use Rattle.cpu.specs.Entries.{entered}
-use borrow.Author.Rules.{rules}
 use Rattle.machine.proofs.step.enter_by.Goals as goal
 
 pub returns-in-Nowhere : goal.returns-in-Nowhere

@@ -1,5 +1,4 @@
 use Rattle.machine.specs.Step.{done_of}
-use borrow.Author.Rules.{rules}
 use Rattle.machine.proofs.step.finish.Goals as goal
 
 pub returns : goal.returns

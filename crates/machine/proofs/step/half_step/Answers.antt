@@ -1,6 +1,5 @@
 use Rattle.machine.specs.Parts.{half_act}
 use mathlib.Core.Path.{refl}
-use borrow.Author.Rules.{rules}
 use Rattle.machine.proofs.step.half_step.Goals as goal
 
 pub returns-in-Halted : goal.returns-in-Halted

@@ -1,6 +1,5 @@
 use mathlib.Core.Path.{sym, ◌∙◌}
 use Rattle.marks.proofs.Places.{clear_none}
-use borrow.Author.Rules.{rules}
 use Rattle.marks.proofs.memory.any_marked.Goals as goal
 
 pub returns-then-is_clear : goal.returns-then-is_clear

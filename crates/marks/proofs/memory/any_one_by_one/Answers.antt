@@ -1,8 +1,6 @@
 use native.Mathlib.Omega.{arith}
-use Prim.Native.Nat.{◌-◌, ◌≤◌}
-use mathlib.Core.Path.{◌≡◌, sym}
-use borrow.Author.Rules.{rules}
-use Rattle.marks.specs.Memory.{bits, any_mark}
+use Prim.Native.Nat.{◌-◌}
+use mathlib.Core.Path.{sym}
 use Rattle.marks.proofs.Places.{any_more, any_zero}
 use Rattle.marks.proofs.memory.any_one_by_one.Goals as goal
 

@@ -1,8 +1,6 @@
-use native.Mathlib.Omega.{arith}
 use Prim.Native.Nat.{◌-◌, ◌≤◌}
-use mathlib.Core.Path.{◌≡◌, sym}
+use mathlib.Core.Path.{◌≡◌}
 use Rattle.marks.specs.Memory.{bits, any_mark}
-use Rattle.marks.proofs.Places.{any_more, any_zero}
 use Rattle.marks.proofs.memory.any_one_by_one.Given as goal
 
 abbrev pub invariant-loop-i : goal.invariant-loop-i

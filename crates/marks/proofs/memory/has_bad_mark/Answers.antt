@@ -3,7 +3,6 @@ use native.Mathlib.Omega.{arith}
 use lib.ListN.{get_or}
 use mathlib.Core.Path.{sym}
 use Rattle.marks.proofs.Places.{past_none, end_field}
-use borrow.Author.Rules.{rules}
 use Rattle.marks.proofs.memory.has_bad_mark.Goals as goal
 
 pub returns-then-j-k : goal.returns-then-j-k

@@ -1,7 +1,5 @@
 use mathlib.Core.Path.{sym, ◌∙◌}
-use borrow.Author.Tests.{not-true}
 use Rattle.marks.proofs.Places.{puts_off, clear_none}
-use borrow.Author.Rules.{rules}
 use Rattle.marks.proofs.memory.put_marks.Goals as goal
 
 pub returns-then-is_clear : goal.returns-then-is_clear

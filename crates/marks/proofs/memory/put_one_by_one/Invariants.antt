@@ -1,9 +1,7 @@
-use native.Mathlib.Omega.{arith}
 use Prim.Native.Nat.{◌-◌, ◌≤◌}
-use mathlib.Core.Path.{◌≡◌, refl, sym}
+use mathlib.Core.Path.{◌≡◌}
 use lib.ListN.{length}
 use Rattle.marks.specs.Memory.{bits, put_marks}
-use Rattle.marks.proofs.Places.{puts_more, puts_zero}
 use Rattle.marks.proofs.memory.put_one_by_one.Given as goal
 
 abbrev pub invariant-loop-i : goal.invariant-loop-i

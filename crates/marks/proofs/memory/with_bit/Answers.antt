@@ -1,7 +1,6 @@
-use Prim.Native.Nat.{◌-◌, ◌*◌, ◌%◌, ◌^◌}
+use Prim.Native.Nat.{◌-◌}
 use native.Mathlib.Omega.{arith}
-use lib.Bits.{and_le_l}
-use Rattle.marks.proofs.Masks.{shifted_small, set_small, byte_set, byte_cleared}
+use Rattle.marks.proofs.Masks.{set_small, byte_set, byte_cleared}
 use borrow.Author.Rules.{rules}
 use Rattle.marks.proofs.memory.with_bit.Goals as goal
 

@@ -1,5 +1,4 @@
 use Rattle.script.specs.Fault.{address_fault}
-use borrow.Author.Rules.{rules}
 use Rattle.script.proofs.faults.address_fault.Goals as goal
 
 pub returns-then-is_bad_address : goal.returns-then-is_bad_address

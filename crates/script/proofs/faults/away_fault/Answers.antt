@@ -1,5 +1,4 @@
 use Rattle.script.specs.Fault.{away_fault}
-use borrow.Author.Rules.{rules}
 use Rattle.script.proofs.faults.away_fault.Goals as goal
 
 pub returns-then-either : goal.returns-then-either

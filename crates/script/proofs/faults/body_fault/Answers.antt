@@ -1,5 +1,4 @@
 use Rattle.script.specs.Fault.{body_fault}
-use borrow.Author.Rules.{rules}
 use Rattle.script.proofs.faults.body_fault.Goals as goal
 
 pub returns-then-is_same : goal.returns-then-is_same

@@ -1,5 +1,4 @@
 use Rattle.script.specs.Fault.{bytes_fault}
-use borrow.Author.Rules.{rules}
 use Rattle.script.proofs.faults.bytes_fault.Goals as goal
 
 pub returns-then-are_bad : goal.returns-then-are_bad

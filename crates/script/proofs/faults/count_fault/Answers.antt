@@ -1,5 +1,4 @@
 use Rattle.script.specs.Fault.{count_fault}
-use borrow.Author.Rules.{rules}
 use Rattle.script.proofs.faults.count_fault.Goals as goal
 
 pub returns-in-Nothing : goal.returns-in-Nothing

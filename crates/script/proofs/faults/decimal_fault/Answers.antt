@@ -1,5 +1,4 @@
 use Rattle.script.specs.Fault.{decimal_fault}
-use borrow.Author.Rules.{rules}
 use Rattle.script.proofs.faults.decimal_fault.Goals as goal
 
 pub returns-then-are_bad : goal.returns-then-are_bad

@@ -1,9 +1,7 @@
-use Rattle.script.proofs.Laws.{letters_start, letters_on, letters_stop, letters_most, letters_none}
-use borrow.Author.Rules.{rules}
+use Rattle.script.proofs.Laws.{letters_on, letters_stop, letters_most, letters_none}
 use Rattle.script.specs.Fault.{letters_in}
-use lib.ListN.{length, drop}
-use mathlib.Core.Path.{◌≡◌, sym, ◌∙◌}
-use Prim.Native.Nat.{◌+◌, ◌-◌, ◌≤◌}
+use mathlib.Core.Path.{sym, ◌∙◌}
+use Prim.Native.Nat.{◌-◌}
 use native.Mathlib.Omega.{arith}
 use Rattle.script.proofs.faults.letters_in.Goals as goal
 

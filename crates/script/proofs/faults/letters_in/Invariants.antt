@@ -1,9 +1,7 @@
-use Rattle.script.proofs.Laws.{letters_start, letters_on, letters_stop, letters_most, letters_none}
 use Rattle.script.specs.Fault.{letters_in}
 use lib.ListN.{length, drop}
-use mathlib.Core.Path.{◌≡◌, sym, ◌∙◌}
+use mathlib.Core.Path.{◌≡◌}
 use Prim.Native.Nat.{◌+◌, ◌-◌, ◌≤◌}
-use native.Mathlib.Omega.{arith}
 use Rattle.script.proofs.faults.letters_in.Given as goal
 
 abbrev pub invariant-loop-i : goal.invariant-loop-i

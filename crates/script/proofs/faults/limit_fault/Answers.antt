@@ -1,6 +1,5 @@
 use borrow.Author.Tests.{le-leb, lt-leb}
 use Rattle.script.specs.Fault.{limit_fault}
-use borrow.Author.Rules.{rules}
 use Rattle.script.proofs.faults.limit_fault.Goals as goal
 
 pub returns-then-n-le16384 : goal.returns-then-n-le16384

@@ -1,5 +1,4 @@
 use Rattle.script.specs.Fault.{fault_of}
-use borrow.Author.Rules.{rules}
 use Rattle.script.proofs.faults.line_fault.Goals as goal
 
 pub returns-in-First : goal.returns-in-First

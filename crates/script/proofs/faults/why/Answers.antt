@@ -1,5 +1,4 @@
 use Rattle.script.specs.Fault.{end_fault}
-use borrow.Author.Rules.{rules}
 use Rattle.script.proofs.faults.why.Goals as goal
 
 pub returns-in-First : goal.returns-in-First

@@ -1,10 +1,6 @@
-use borrow.Author.Rules.{rules}
 use Rattle.script.proofs.Laws.{feed_more, feed_none}
-use Rattle.marks.specs.Memory.{bits}
-use Rattle.script.specs.Reader.{fed, feed_of}
-use lib.ListN.{length, drop}
-use mathlib.Core.Path.{◌≡◌, refl, sym, ◌∙◌}
-use Prim.Native.Nat.{◌-◌, ◌≤◌}
+use mathlib.Core.Path.{sym, ◌∙◌}
+use Prim.Native.Nat.{◌-◌}
 use native.Mathlib.Omega.{arith}
 use Rattle.script.proofs.feeding.feed.Goals as goal
 

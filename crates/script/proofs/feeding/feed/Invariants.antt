@@ -1,10 +1,8 @@
-use Rattle.script.proofs.Laws.{feed_more, feed_none}
 use Rattle.marks.specs.Memory.{bits}
 use Rattle.script.specs.Reader.{fed, feed_of}
 use lib.ListN.{length, drop}
-use mathlib.Core.Path.{◌≡◌, refl, sym, ◌∙◌}
+use mathlib.Core.Path.{◌≡◌}
 use Prim.Native.Nat.{◌-◌, ◌≤◌}
-use native.Mathlib.Omega.{arith}
 use Rattle.script.proofs.feeding.feed.Given as goal
 
 abbrev pub invariant-loop-i : goal.invariant-loop-i

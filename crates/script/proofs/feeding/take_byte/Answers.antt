@@ -1,6 +1,5 @@
 use Rattle.script.specs.Reader.{byte_of}
 use borrow.Author.Tests.{lt-ltb, le-ltb, eq-eqb, ne_eqb}
-use borrow.Author.Rules.{rules}
 use Rattle.script.proofs.feeding.take_byte.Goals as goal
 
 pub returns-then-b-eq10 : goal.returns-then-b-eq10

@@ -1,6 +1,5 @@
 use Rattle.script.specs.Line.{body_of}
 use mathlib.Core.Path.{refl}
-use borrow.Author.Rules.{rules}
 use Rattle.script.proofs.lines.body_line.Goals as goal
 
 pub returns-then-is_same : goal.returns-then-is_same

@@ -2,7 +2,6 @@ use Rattle.marks.specs.Memory.{put_marks}
 use Rattle.script.specs.Line.{count_of}
 use borrow.Author.Tests.{ne_eqb}
 use mathlib.Core.Path.{refl}
-use borrow.Author.Rules.{rules}
 use Rattle.script.proofs.lines.count_line.Goals as goal
 
 pub returns-then-c-eq0 : goal.returns-then-c-eq0

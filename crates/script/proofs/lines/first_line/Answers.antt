@@ -1,5 +1,4 @@
 use Rattle.script.specs.Line.{first_of}
-use borrow.Author.Rules.{rules}
 use Rattle.script.proofs.lines.first_line.Goals as goal
 
 pub returns-then-is_same : goal.returns-then-is_same

@@ -1,6 +1,5 @@
 use Rattle.script.specs.Line.{mark_of}
 use mathlib.Core.Path.{refl}
-use borrow.Author.Rules.{rules}
 use Rattle.script.proofs.lines.mark_line.Goals as goal
 
 pub returns-in-Nothing : goal.returns-in-Nothing

@@ -1,10 +1,7 @@
-use borrow.Author.Rules.{rules}
-use Rattle.script.proofs.Laws.{put_start, put_more, put_none}
-use Rattle.script.specs.Line.{pairs_of}
-use lib.Seq.{sets}
-use lib.ListN.{length, drop, length-set}
-use mathlib.Core.Path.{◌≡◌, refl, sym, ◌∙◌}
-use Prim.Native.Nat.{◌+◌, ◌*◌, ◌-◌, ◌/◌, ◌≤◌}
+use Rattle.script.proofs.Laws.{put_more, put_none}
+use lib.ListN.{length-set}
+use mathlib.Core.Path.{sym, ◌∙◌}
+use Prim.Native.Nat.{◌-◌}
 use native.Mathlib.Omega.{arith}
 use Rattle.script.proofs.lines.put_bytes.Goals as goal
 

@@ -1,10 +1,8 @@
-use Rattle.script.proofs.Laws.{put_start, put_more, put_none}
 use Rattle.script.specs.Line.{pairs_of}
 use lib.Seq.{sets}
-use lib.ListN.{length, drop, length-set}
-use mathlib.Core.Path.{◌≡◌, refl, sym, ◌∙◌}
+use lib.ListN.{length, drop}
+use mathlib.Core.Path.{◌≡◌}
 use Prim.Native.Nat.{◌+◌, ◌*◌, ◌-◌, ◌/◌, ◌≤◌}
-use native.Mathlib.Omega.{arith}
 use Rattle.script.proofs.lines.put_bytes.Given as goal
 
 abbrev pub invariant-loop-i : goal.invariant-loop-i

@@ -1,6 +1,5 @@
 use Rattle.script.specs.Line.{put_of}
 use mathlib.Core.Path.{refl}
-use borrow.Author.Rules.{rules}
 use Rattle.script.proofs.lines.put_line.Goals as goal
 
 pub returns-then-is_inside : goal.returns-then-is_inside

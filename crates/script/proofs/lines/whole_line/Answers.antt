@@ -1,6 +1,5 @@
 use Rattle.script.specs.Line.{line_of}
 use mathlib.Core.Path.{refl}
-use borrow.Author.Rules.{rules}
 use Rattle.script.proofs.lines.whole_line.Goals as goal
 
 pub returns-in-First : goal.returns-in-First

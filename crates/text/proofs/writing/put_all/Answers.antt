@@ -1,10 +1,7 @@
-use borrow.Author.Rules.{rules}
 use Rattle.text.proofs.Pages.{write_in, write_none, write_past}
-use Rattle.text.specs.Pages.{page, write_on}
-use lib.ListN.{length, drop, length-set}
-use mathlib.Core.Path.{◌≡◌, refl, sym, ◌∙◌}
-use native.Mathlib.Nat.{add-zero}
-use Prim.Native.Nat.{◌+◌, ◌-◌, ◌≤◌}
+use lib.ListN.{length-set}
+use mathlib.Core.Path.{sym, ◌∙◌}
+use Prim.Native.Nat.{◌-◌}
 use native.Mathlib.Omega.{arith}
 use Rattle.text.proofs.writing.put_all.Goals as goal
 

@@ -1,5 +1,4 @@
 use Rattle.text.proofs.Spelling.{write_one, write_two}
-use borrow.Author.Rules.{rules}
 use Rattle.text.proofs.writing.put_number.Goals as goal
 
 pub returns-then-n-lt10 : goal.returns-then-n-lt10

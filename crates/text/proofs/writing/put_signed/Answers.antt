@@ -1,7 +1,6 @@
 use borrow.Author.Tests.{lt-ltb, le-ltb}
 use Rattle.text.specs.Digits.{signed_text}
 use Rattle.text.specs.Pages.{write_on}
-use borrow.Author.Rules.{rules}
 use Rattle.text.proofs.writing.put_signed.Goals as goal
 
 pub returns-then-n-lt2147483648 : goal.returns-then-n-lt2147483648

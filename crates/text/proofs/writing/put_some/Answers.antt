@@ -1,9 +1,7 @@
 use borrow.Author.Rules.{rules}
 use Rattle.text.proofs.Pages.{write_more, write_none}
-use Rattle.text.specs.Pages.{page, write_on}
-use lib.ListN.{length, drop}
-use mathlib.Core.Path.{◌≡◌, refl, sym, ◌∙◌}
-use Prim.Native.Nat.{◌-◌, ◌≤◌}
+use mathlib.Core.Path.{sym, ◌∙◌}
+use Prim.Native.Nat.{◌-◌}
 use native.Mathlib.Omega.{arith}
 use Rattle.text.proofs.writing.put_some.Goals as goal
 

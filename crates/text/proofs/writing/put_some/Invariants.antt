@@ -1,9 +1,7 @@
-use Rattle.text.proofs.Pages.{write_more, write_none}
 use Rattle.text.specs.Pages.{page, write_on}
 use lib.ListN.{length, drop}
-use mathlib.Core.Path.{◌≡◌, refl, sym, ◌∙◌}
+use mathlib.Core.Path.{◌≡◌}
 use Prim.Native.Nat.{◌-◌, ◌≤◌}
-use native.Mathlib.Omega.{arith}
 use Rattle.text.proofs.writing.put_some.Given as goal
 
 abbrev pub invariant-loop-i : goal.invariant-loop-i

@@ -1,10 +1,6 @@
-use borrow.Author.Rules.{rules}
 use Rattle.text.proofs.Spelling.{place_left, place_spelled, decimal_on, decimal_last}
-use Rattle.text.specs.Digits.{decimal_text}
-use lib.ListN.{length, drop, length-set}
-use mathlib.Core.List.{◌++◌, append-nil}
-use mathlib.Core.Path.{◌≡◌, refl, ◌∙◌}
-use Prim.Native.Nat.{◌^◌, ◌<◌, ◌≤◌}
+use lib.ListN.{length-set}
+use mathlib.Core.Path.{◌∙◌}
 use native.Mathlib.Omega.{arith}
 use Rattle.text.proofs.writing.spelled.Goals as goal
 

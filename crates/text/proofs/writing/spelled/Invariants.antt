@@ -1,10 +1,8 @@
-use Rattle.text.proofs.Spelling.{place_left, place_spelled, decimal_on, decimal_last}
 use Rattle.text.specs.Digits.{decimal_text}
-use lib.ListN.{length, drop, length-set}
-use mathlib.Core.List.{◌++◌, append-nil}
-use mathlib.Core.Path.{◌≡◌, refl, ◌∙◌}
+use lib.ListN.{length, drop}
+use mathlib.Core.List.{◌++◌}
+use mathlib.Core.Path.{◌≡◌}
 use Prim.Native.Nat.{◌^◌, ◌<◌, ◌≤◌}
-use native.Mathlib.Omega.{arith}
 use Rattle.text.proofs.writing.spelled.Given as goal
 
 abbrev pub invariant-loop-rest : goal.invariant-loop-rest

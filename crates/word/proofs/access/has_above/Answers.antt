@@ -1,6 +1,5 @@
-use Rattle.std.proofs.Common.{◌≡◌, ◌-◌, ◌≤◌, Bool, true, false, ◌||◌, length, drop, sym, refl, ◌∙◌, arith, rules}
+use Rattle.std.proofs.Common.{◌≡◌, ◌-◌, Bool, true, false, ◌||◌, sym, refl, ◌∙◌, arith}
 use Rattle.word.proofs.Memory.{above_more, above_none}
-use Rattle.word.specs.Bytes.{any_above}
 use Rattle.word.proofs.access.has_above.Goals as goal
 
 or-again : (a b c : Bool) → ((a || b) || c) ≡ (a || (b || c))

@@ -1,5 +1,4 @@
-use Rattle.std.proofs.Common.{◌≡◌, ◌-◌, ◌≤◌, Bool, true, false, ◌||◌, length, drop, sym, refl, ◌∙◌, arith, rules}
-use Rattle.word.proofs.Memory.{above_more, above_none}
+use Rattle.std.proofs.Common.{◌≡◌, ◌-◌, ◌≤◌, ◌||◌, length, drop}
 use Rattle.word.specs.Bytes.{any_above}
 use Rattle.word.proofs.access.has_above.Given as goal
 

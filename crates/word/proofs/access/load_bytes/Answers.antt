@@ -1,6 +1,4 @@
-use Rattle.std.proofs.Common.{◌≡◌, ◌+◌, ◌-◌, ◌*◌, ◌^◌, ◌<◌, ◌≤◌, sym, arith, pow_mono, rules, le-leb}
-use borrow.Author.Tests.{lt-leb}
-use Rattle.word.specs.Bytes.{load}
+use Rattle.std.proofs.Common.{◌+◌, ◌-◌, ◌*◌, ◌^◌, ◌≤◌, sym, arith, pow_mono}
 use Rattle.word.proofs.Memory.{load_none, load_more, byte_more}
 use Rattle.word.proofs.access.load_bytes.Goals as goal
 

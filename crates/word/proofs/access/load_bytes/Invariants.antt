@@ -1,7 +1,5 @@
-use Rattle.std.proofs.Common.{◌≡◌, ◌+◌, ◌-◌, ◌*◌, ◌^◌, ◌<◌, ◌≤◌, sym, arith, pow_mono, rules, le-leb}
-use borrow.Author.Tests.{lt-leb}
+use Rattle.std.proofs.Common.{◌≡◌, ◌-◌, ◌*◌, ◌^◌, ◌<◌, ◌≤◌}
 use Rattle.word.specs.Bytes.{load}
-use Rattle.word.proofs.Memory.{load_none, load_more, byte_more}
 use Rattle.word.proofs.access.load_bytes.Given as goal
 
 abbrev pub invariant-loop-i : goal.invariant-loop-i

@@ -1,6 +1,4 @@
-use Rattle.std.proofs.Common.{◌≡◌, ◌^◌, ◌<◌, ◌≤◌, length, sym, refl, ◌∙◌, arith, length-set, rules, le-leb}
-use borrow.Author.Tests.{lt-leb}
-use Rattle.word.specs.Bytes.{store}
+use Rattle.std.proofs.Common.{sym, ◌∙◌, arith, length-set, le-leb}
 use Rattle.word.proofs.Memory.{store_none, store_more}
 use Rattle.word.proofs.access.store_bytes.Goals as goal
 

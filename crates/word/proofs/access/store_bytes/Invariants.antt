@@ -1,7 +1,5 @@
-use Rattle.std.proofs.Common.{◌≡◌, ◌^◌, ◌<◌, ◌≤◌, length, sym, refl, ◌∙◌, arith, length-set, rules, le-leb}
-use borrow.Author.Tests.{lt-leb}
+use Rattle.std.proofs.Common.{◌≡◌, ◌^◌, ◌<◌, ◌≤◌, length}
 use Rattle.word.specs.Bytes.{store}
-use Rattle.word.proofs.Memory.{store_none, store_more}
 use Rattle.word.proofs.access.store_bytes.Given as goal
 
 abbrev pub invariant-loop-i : goal.invariant-loop-i

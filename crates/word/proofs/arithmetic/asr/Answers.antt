@@ -1,6 +1,5 @@
-use Rattle.word.proofs.Numbers.{signs_fit, signs_are}
-use Rattle.std.proofs.Common.{◌/◌, ◌^◌, arith, rules, le-ltb, lt-ltb}
-use lib.Pow.{shr_le}
+use Rattle.word.proofs.Numbers.{signs_are}
+use Rattle.std.proofs.Common.{◌/◌, ◌^◌, le-ltb}
 use Rattle.word.proofs.arithmetic.asr.Goals as goal
 
 pub returns-then-negative-2 : goal.returns-then-negative-2

@@ -1,6 +1,5 @@
-use Rattle.std.proofs.Common.{◌≡◌, ◌^◌, ◌<◌, ◌≤◌, sym, ◌∙◌, mod-lt, arith, pow_pos, pow_mono, rules}
-use native.Mathlib.Nat.{mod-le}
-use Rattle.word.proofs.Numbers.{extend_none, extend_all, extend_near, extend_far}
+use Rattle.std.proofs.Common.{◌≡◌, sym, ◌∙◌, arith}
+use Rattle.word.proofs.Numbers.{extend_all, extend_far}
 use Rattle.word.proofs.arithmetic.extend.Goals as goal
 
 pub returns-then-w-gt31 : goal.returns-then-w-gt31

@@ -1,6 +1,3 @@
-use Rattle.std.proofs.Common.{◌/◌, ◌^◌, ◌<◌, arith, pow_pos, rules}
-use lib.Pow.{shr_le}
-use native.Mathlib.Nat.{mod-le}
 use Rattle.word.proofs.Numbers.{field_past, field_rest}
 use Rattle.word.proofs.bits.field.Goals as goal
 

@@ -1,7 +1,6 @@
-use Rattle.std.proofs.Common.{◌+◌, ◌<◌, ◌≤◌, arith, pow_pos, rules, le-leb}
-use borrow.Author.Tests.{lt-leb}
+use Rattle.std.proofs.Common.{◌+◌, ◌≤◌, arith, le-leb}
 use Rattle.word.specs.Bits.{put}
-use Rattle.word.proofs.Fields.{high_fits, mid_fits, top_fits, whole_fits}
+use Rattle.word.proofs.Fields.{top_fits, whole_fits}
 use Rattle.word.proofs.bits.with_field.Goals as goal
 
 pub overflow_mul-result-2 : goal.overflow_mul-result-2
