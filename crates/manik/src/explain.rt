@@ -1,5 +1,4 @@
 // Why an input is bad, in words, on standard error: line, byte, what stands there, and what should.
-use libc::STDERR_FILENO;
 use script::{Fault, Reader, Reason};
 
 fn put_byte(out: &mut [u8; 256], at: usize, b: u8) -> usize {
@@ -93,13 +92,13 @@ fn put_place(out: &mut [u8; 256], at: usize, f: Fault) -> usize {
     text::put_all(out, d, b"; ")
 }
 
-fn write_words(text: &[u8], n: usize) {
+fn write_words(err: &impl Print, text: &[u8], n: usize) {
     let end = word::at_most(n, text.len());
-    io::write_all(STDERR_FILENO, &text[..end]);
+    let _ = err.write_all(&text[..end]);
 }
 
-fn write_made(text: &[u8; 256], n: usize) {
-    write_words(text, n);
+fn write_made(err: &impl Print, text: &[u8; 256], n: usize) {
+    write_words(err, text, n);
 }
 
 fn put_words(out: &mut [u8; 256], number: u64, f: Fault) -> usize {
@@ -111,10 +110,10 @@ fn put_words(out: &mut [u8; 256], number: u64, f: Fault) -> usize {
     text::put_all(out, d, b"\n")
 }
 
-fn say(number: u64, f: Fault) {
+fn say(err: &impl Print, number: u64, f: Fault) {
     let mut out = [0u8; 256];
     let n = put_words(&mut out, number, f);
-    write_made(&out, n);
+    write_made(err, &out, n);
 }
 
 fn is_bad(reason: Reason) -> bool {
@@ -125,10 +124,10 @@ fn is_bad(reason: Reason) -> bool {
 }
 
 // Nothing is said of a good input.
-pub fn explain(r: Reader) {
+pub fn explain(err: &impl Print, r: Reader) {
     let f = script::why(r);
     let reason = f.reason;
     if is_bad(reason) {
-        say(r.number, f);
+        say(err, r.number, f);
     }
 }

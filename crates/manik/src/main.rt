@@ -2,10 +2,12 @@
 #![tactic(auto)]
 
 mod explain;
+mod fail;
 
 use explain::explain;
-use libc::{STDIN_FILENO, STDOUT_FILENO};
+use fail::fail;
 use script::{Phase, Reader};
+use std::io::Read;
 
 // After a part: more may come, the answer is fixed, or the input cannot be read.
 #[derive(Clone, Copy)]
@@ -16,32 +18,33 @@ enum Turn {
 }
 
 fn read_part(
+    input: &mut impl Read,
+    err: &impl Print,
     r: Reader,
     part: &mut [u8; 4096],
     line: &mut [u8; 45],
     m: &mut [u8; 16384],
     k: &mut [u8; 2048],
 ) -> Turn {
-    let got = libc::read(STDIN_FILENO, part);
-    if got < 0 {
-        os::fail(b"manik: standard input");
-        return Turn::Failed;
+    match input.read(part) {
+        Ok(0) => Turn::Ended(r),
+        Ok(n) => feed_start(r, n, part, line, m, k),
+        Err(e) => {
+            fail(err, b"manik: standard input", e);
+            Turn::Failed
+        }
     }
-    if got == 0 {
-        return Turn::Ended(r);
-    }
-    feed_start(r, got, part, line, m, k)
 }
 
 fn feed_start(
     r: Reader,
-    got: isize,
+    got: usize,
     part: &[u8],
     line: &mut [u8; 45],
     m: &mut [u8; 16384],
     k: &mut [u8; 2048],
 ) -> Turn {
-    let n = io::count(got, part);
+    let n = word::at_most(got, part.len());
     after_part(script::feed(r, &part[..n], line, m, k))
 }
 
@@ -58,6 +61,8 @@ fn after_part(r: Reader) -> Turn {
 
 // A proved loop has to end, and nothing says that an input does: it counts down from a number that no input uses up.
 fn read_all(
+    input: &mut impl Read,
+    err: &impl Print,
     r: Reader,
     part: &mut [u8; 4096],
     line: &mut [u8; 45],
@@ -67,7 +72,7 @@ fn read_all(
     let mut s = r;
     let mut left = u64::MAX;
     while 0 < left {
-        let t = read_part(s, part, line, m, k);
+        let t = read_part(input, err, s, part, line, m, k);
         match t {
             Turn::More(next) => {
                 s = next;
@@ -85,36 +90,51 @@ fn read_all(
 }
 
 // The text's length is at most that of its room (`fits` of crates/answer/proofs/Theorems.antt), so nothing is cut.
-fn write_start(text: &[u8], n: usize) {
+fn write_start(out: &impl Print, err: &impl Print, text: &[u8], n: usize) {
     let end = word::at_most(n, text.len());
-    if !io::write_all(STDOUT_FILENO, &text[..end]) {
-        os::fail(b"manik: standard output");
+    if let Err(e) = out.write_all(&text[..end]) {
+        fail(err, b"manik: standard output", e);
     }
 }
 
 // An array behind a reference is lent as a slice with no proof of its length.
-fn write_made(text: &[u8; 256], n: usize) {
-    write_start(text, n);
+fn write_made(out: &impl Print, err: &impl Print, text: &[u8; 256], n: usize) {
+    write_start(out, err, text, n);
 }
 
-fn write_answer(r: Reader, m: &mut [u8; 16384], k: &mut [u8; 2048]) {
-    let mut out = [0u8; 256];
-    let n = answer::answer(r, m, k, &mut out);
-    write_made(&out, n);
+fn write_answer(
+    out: &impl Print,
+    err: &impl Print,
+    r: Reader,
+    m: &mut [u8; 16384],
+    k: &mut [u8; 2048],
+) {
+    let mut text = [0u8; 256];
+    let n = answer::answer(r, m, k, &mut text);
+    write_made(out, err, &text, n);
 }
 
-fn main() {
+fn main(rt: HostRuntime) {
+    let err = rt.stderr();
     let mut part = [0u8; 4096];
     let mut line = [0u8; 45];
     let mut m = [0u8; 16384];
     let mut k = [0u8; 2048];
     let r = script::start(&mut m, &mut k);
-    let t = read_all(r, &mut part, &mut line, &mut m, &mut k);
+    let t = read_all(
+        &mut rt.stdin(),
+        &err,
+        r,
+        &mut part,
+        &mut line,
+        &mut m,
+        &mut k,
+    );
     match t {
         Turn::More(_) => {}
         Turn::Ended(last) => {
-            write_answer(last, &mut m, &mut k);
-            explain(last);
+            write_answer(&rt, &err, last, &mut m, &mut k);
+            explain(&err, last);
         }
         Turn::Failed => {}
     }

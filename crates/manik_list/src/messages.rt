@@ -1,6 +1,7 @@
 // Why nothing is listed: one line on standard error. Its room has 256 bytes beside a word of the longest, 4,096.
 use crate::ranges::Why;
-use libc::STDERR_FILENO;
+use std::io::{Cursor, Error, Write};
+use std::str;
 
 // A byte that would end the line or steer a terminal is not shown.
 fn plain(b: u8) -> u8 {
@@ -64,25 +65,48 @@ fn put_why(out: &mut [u8; 4352], w: Why, start: usize, end: usize, length: usize
     }
 }
 
+// The system's words alone: std adds a number to them.
+fn words(said: &[u8]) -> &[u8] {
+    let Ok(text) = str::from_utf8(said) else {
+        return said;
+    };
+    let Some((words, _)) = text.rsplit_once(" (os error ") else {
+        return said;
+    };
+    words.as_bytes()
+}
+
+// A line: what failed, and why.
+pub fn fail(err: &impl Print, what: &[u8], e: Error) {
+    let mut said = Cursor::new([0u8; 128]);
+    let _ = write!(said, "{e}");
+    let n = said.position() as usize;
+    let room = said.into_inner();
+    let _ = err.write_all(what);
+    let _ = err.write_all(b": ");
+    let _ = err.write_all(words(text::start_part(&room, n)));
+    let _ = err.write_all(b"\n");
+}
+
 // An array behind a reference is lent as a slice with no proof of its length.
-fn write(out: &[u8; 4352], n: usize) {
-    io::write_all(STDERR_FILENO, text::start_part(out, n));
+fn write(err: &impl Print, out: &[u8; 4352], n: usize) {
+    let _ = err.write_all(text::start_part(out, n));
 }
 
-fn write_failed(out: &[u8; 4352], n: usize) {
-    os::fail(text::start_part(out, n));
+fn write_failed(err: &impl Print, out: &[u8; 4352], n: usize, e: Error) {
+    fail(err, text::start_part(out, n), e);
 }
 
-pub fn say(what: &[u8], why: &[u8], word: &[u8]) {
+pub fn say(err: &impl Print, what: &[u8], why: &[u8], word: &[u8]) {
     let mut out = [0u8; 4352];
     let n = put_words(&mut out, what, why, word);
-    write(&out, n);
+    write(err, &out, n);
 }
 
-pub fn say_why(w: Why, start: usize, end: usize, length: usize) {
+pub fn say_why(err: &impl Print, w: Why, start: usize, end: usize, length: usize) {
     let mut out = [0u8; 4352];
     let n = put_why(&mut out, w, start, end, length);
-    write(&out, n);
+    write(err, &out, n);
 }
 
 fn put_file(out: &mut [u8; 4352], file: &[u8]) -> usize {
@@ -90,9 +114,9 @@ fn put_file(out: &mut [u8; 4352], file: &[u8]) -> usize {
     put_plain(out, a, file)
 }
 
-// A call of C failed on the file, and errno says why.
-pub fn say_failed(file: &[u8]) {
+// A call of the system failed on the file, and the error says why.
+pub fn say_failed(err: &impl Print, file: &[u8], e: Error) {
     let mut out = [0u8; 4352];
     let n = put_file(&mut out, file);
-    write_failed(&out, n);
+    write_failed(err, &out, n, e);
 }

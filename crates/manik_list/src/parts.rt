@@ -1,9 +1,9 @@
-// The listing, written in parts of whole lines. No contract of the kit can say what a call of C writes. `fill` is proved to make the listing's next
+// The listing, written in parts of whole lines. No contract of std says which bytes reach the system. `fill` is proved to make the listing's next
 // part, so all parts, one after the other, are the listing.
 ghost use Rattle.std.specs.Prelude.{◌≡◌, ◌++◌, ◌≤◌, ◌<◌, length, take};
 ghost use Rattle.listing.specs.Listing.{listing_of};
 
-use libc::STDOUT_FILENO;
+use crate::messages::fail;
 use word::ByteAddr;
 
 // So many bytes, and the address after their last line.
@@ -36,22 +36,22 @@ fn fill(out: &mut [u8], image: &[u8], start: u32, end: usize) -> Part
 }
 
 // Whether it is written.
-fn write_part(out: &[u8], n: usize) -> bool {
-    if io::write_all(STDOUT_FILENO, text::start_part(out, n)) {
-        return true;
+fn write_part(to: &impl Print, err: &impl Print, out: &[u8], n: usize) -> bool {
+    if let Err(e) = to.write_all(text::start_part(out, n)) {
+        fail(err, b"manik-list: standard output", e);
+        return false;
     }
-    os::fail(b"manik-list: standard output");
-    false
+    true
 }
 
-pub fn write_listing(image: &[u8], start: u32, end: usize)
+pub fn write_listing(to: &impl Print, err: &impl Print, image: &[u8], start: u32, end: usize)
     requires { (start ≤ end) × (end ≤ 65536) }
 {
-    let mut out = io::buffer();
+    let mut out = [0u8; 4096];
     let mut at = start;
     while (at as usize) < end {
         let p = fill(&mut out, image, at, end);
-        if !write_part(&out, p.bytes) {
+        if !write_part(to, err, &out, p.bytes) {
             return;
         }
         at = p.next;

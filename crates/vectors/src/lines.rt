@@ -1,5 +1,5 @@
 // A line of the answer, made in a room so that it takes one call to write.
-use libc::STDOUT_FILENO;
+use std::io;
 
 fn digit(x: u8) -> u8 {
     let d = x % 16;
@@ -23,14 +23,14 @@ fn put_field(line: &mut [u8; 512], at: usize, n: u64) -> usize {
     text::put_number(line, a, n)
 }
 
-fn write_start(line: &[u8], n: usize) {
+fn write_start(rt: &impl Print, line: &[u8], n: usize) -> io::Result<()> {
     let end = word::at_most(n, line.len());
-    io::write_all(STDOUT_FILENO, &line[..end]);
+    rt.write_all(&line[..end])
 }
 
 // An array behind a reference is lent as a slice with no proof of its length.
-fn write_made(line: &[u8; 512], n: usize) {
-    write_start(line, n);
+fn write_made(rt: &impl Print, line: &[u8; 512], n: usize) -> io::Result<()> {
+    write_start(rt, line, n)
 }
 
 fn put_digests(line: &mut [u8; 512], at: usize, memory: u64, marks: u64, trace: u64) -> usize {
@@ -47,9 +47,17 @@ fn put_end(line: &mut [u8; 512], reply: u32, steps: u64, record: &[u8; 160]) -> 
     put_bytes(line, c, record)
 }
 
-pub fn write_line(reply: u32, steps: u64, record: &[u8; 160], memory: u64, marks: u64, trace: u64) {
+pub fn write_line(
+    rt: &impl Print,
+    reply: u32,
+    steps: u64,
+    record: &[u8; 160],
+    memory: u64,
+    marks: u64,
+    trace: u64,
+) -> io::Result<()> {
     let mut line = [0u8; 512];
     let a = put_end(&mut line, reply, steps, record);
     let end = put_digests(&mut line, a, memory, marks, trace);
-    write_made(&line, end);
+    write_made(rt, &line, end)
 }

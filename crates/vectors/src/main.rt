@@ -8,7 +8,9 @@ ghost use Rattle.std.specs.Prelude.{◌≤◌};
 
 use crate::digests::{digest_of, folded_line, wide};
 use crate::lines::write_line;
-use libc::STDIN_FILENO;
+use reading::read_full;
+use std::io;
+use std::io::Read;
 use word::{ByteAddr, Width};
 
 // The line of a step, and then the step itself, as a run with a budget of 1.
@@ -58,6 +60,7 @@ fn copy(from: &[u8], to: &mut [u8]) {
 
 // The second memory and marks are where the run is made again, step by step.
 fn answer_case(
+    rt: &impl Print,
     record: &mut [u8; 160],
     memory: &mut [u8],
     marks: &mut [u8],
@@ -65,7 +68,7 @@ fn answer_case(
     budget: u64,
     second: &mut [u8],
     tags: &mut [u8],
-) {
+) -> io::Result<()> {
     let mut again = [0u8; 160];
     copy(record, &mut again);
     copy(memory, second);
@@ -74,17 +77,20 @@ fn answer_case(
     let reply = abi::manik_run(record, memory, marks, tape, budget, &mut steps);
     let shown = trace_of(&mut again, second, tags, tape, steps);
     write_line(
+        rt,
         reply,
         steps,
         record,
         digest_of(memory),
         digest_of(marks),
         shown,
-    );
+    )
 }
 
 // The three parts have the lengths that the case gives them.
 fn run_case(
+    rt: &impl Print,
+    input: &mut impl Read,
     record: &mut [u8; 160],
     memory: &mut [u8],
     marks: &mut [u8],
@@ -92,11 +98,11 @@ fn run_case(
     budget: u64,
     second: &mut [u8],
     tags: &mut [u8],
-) {
-    io::read_full(STDIN_FILENO, memory);
-    io::read_full(STDIN_FILENO, marks);
-    io::read_full(STDIN_FILENO, tape);
-    answer_case(record, memory, marks, tape, budget, second, tags);
+) -> io::Result<()> {
+    read_full(input, memory)?;
+    read_full(input, marks)?;
+    read_full(input, tape)?;
+    answer_case(rt, record, memory, marks, tape, budget, second, tags)
 }
 
 fn least(n: usize, a: usize, b: usize) -> usize
@@ -120,6 +126,8 @@ fn size_at(sizes: &[u8], at: u32) -> usize {
 
 // What is larger than its array is cut: a case that keeps to the limits of docs/CORPUS.md is not.
 fn one_case(
+    rt: &impl Print,
+    input: &mut impl Read,
     record: &mut [u8; 160],
     sizes: &mut [u8],
     memory: &mut [u8],
@@ -127,13 +135,15 @@ fn one_case(
     tape: &mut [u8],
     second: &mut [u8],
     tags: &mut [u8],
-) {
-    io::read_full(STDIN_FILENO, sizes);
+) -> io::Result<()> {
+    read_full(input, sizes)?;
     let m = least(size_at(sizes, 0), memory.len(), second.len());
     let k = least(size_at(sizes, 4), marks.len(), tags.len());
     let t = word::at_most(size_at(sizes, 8), tape.len());
     let budget = size_at(sizes, 12) as u64;
     run_case(
+        rt,
+        input,
         record,
         &mut memory[..m],
         &mut marks[..k],
@@ -141,11 +151,13 @@ fn one_case(
         budget,
         &mut second[..m],
         &mut tags[..k],
-    );
+    )
 }
 
 // At most 100,000 cases, so that the loop ends.
 fn all_cases(
+    rt: &impl Print,
+    input: &mut impl Read,
     record: &mut [u8; 160],
     sizes: &mut [u8; 16],
     memory: &mut [u8; 65600],
@@ -153,18 +165,19 @@ fn all_cases(
     tape: &mut [u8; 4096],
     second: &mut [u8; 65600],
     tags: &mut [u8; 65600],
-) {
+) -> io::Result<()> {
     let mut n: u32 = 0;
     while n < 100000 {
-        if io::read_full(STDIN_FILENO, record) < 160 {
-            return;
+        if read_full(input, record)? < 160 {
+            return Ok(());
         }
-        one_case(record, sizes, memory, marks, tape, second, tags);
+        one_case(rt, input, record, sizes, memory, marks, tape, second, tags)?;
         n += 1;
     }
+    Ok(())
 }
 
-fn main() {
+fn main(rt: HostRuntime) -> io::Result<()> {
     let mut record = [0u8; 160];
     let mut sizes = [0u8; 16];
     let mut memory = [0u8; 65600];
@@ -173,6 +186,8 @@ fn main() {
     let mut second = [0u8; 65600];
     let mut tags = [0u8; 65600];
     all_cases(
+        &rt,
+        &mut rt.reader(),
         &mut record,
         &mut sizes,
         &mut memory,
@@ -180,5 +195,5 @@ fn main() {
         &mut tape,
         &mut second,
         &mut tags,
-    );
+    )
 }

@@ -1,5 +1,5 @@
 // A line of the answer, made in a room so that it takes one call to write.
-use libc::STDOUT_FILENO;
+use std::io;
 
 fn put_field(line: &mut [u8; 96], at: usize, n: u64) -> usize {
     let a = text::put(line, at, b'\t');
@@ -15,12 +15,18 @@ fn put_line(out: &mut [u8; 96], reply: u32, line: usize, end: usize, image: u64)
 }
 
 // An array behind a reference is lent as a slice with no proof of its length.
-fn write_made(line: &[u8; 96], n: usize) {
-    io::write_all(STDOUT_FILENO, text::start_part(line, n));
+fn write_made(rt: &impl Print, line: &[u8; 96], n: usize) -> io::Result<()> {
+    rt.write_all(text::start_part(line, n))
 }
 
-pub fn write_line(reply: u32, line: usize, end: usize, image: u64) {
+pub fn write_line(
+    rt: &impl Print,
+    reply: u32,
+    line: usize,
+    end: usize,
+    image: u64,
+) -> io::Result<()> {
     let mut out = [0u8; 96];
     let n = put_line(&mut out, reply, line, end, image);
-    write_made(&out, n);
+    write_made(rt, &out, n)
 }
