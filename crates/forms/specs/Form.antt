@@ -55,7 +55,7 @@ named_from (suc n) p = key_of (name_at p) ∷ named_from n (suc p)
 unfoldable pub mnemonics : List ℕ
 mnemonics = named_from 82 0
 
--- the first byte of a place: the inverse of the listing's placeOf
+-- the first byte of a place: the inverse of the listing's place_of
 unfoldable pub byte_of : ℕ → ℕ
 byte_of p = cond (ltb p 64) p (cond (ltb p 74) ((p - 60) * 16) ((p - 18) * 4))
 

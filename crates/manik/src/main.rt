@@ -48,7 +48,7 @@ fn feed_start(
     after_part(script::feed(r, &part[..n], line, m, k))
 }
 
-// What follows a bad line is not read (`rest-not-read` of crates/answer/proofs/Theorems.antt).
+// What follows a bad line is not read (`rest_not_read` of crates/answer/proofs/Theorems.antt).
 fn after_part(r: Reader) -> Turn {
     let phase = r.phase;
     match phase {

@@ -63,7 +63,7 @@ pub data Outcome : Type 0 where
   stopped : Reply → Outcome
   completed : Core → List ℕ → Outcome
 
--- the state after an effect e that reaches r: the register that it writes (noReg: none), the entry that it makes, and the timer's fall, "if TE was 1 at its
+-- the state after an effect e that reaches r: the register that it writes (no_reg: none), the entry that it makes, and the timer's fall, "if TE was 1 at its
 -- start" and TIMER was not written
 unfoldable pub changed : Core → Effect → Reach → Core
 changed s e r =

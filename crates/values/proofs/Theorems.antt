@@ -345,7 +345,7 @@ module _ (m : List ℕ) (a : ByteAddr) where
       → load_of Width.Word m a ≡ 2 ^ 24 * get_or m a.0 0 + 2 ^ 16 * get_or m (a.0 + 1) 0 + 2 ^ 8 * get_or m (a.0 + 2) 0 + get_or m (a.0 + 3) 0
   word_is = word_loaded m a
 
--- .. and what is stored: of k bytes byte i is the value's byte k - 1 - i, counted from its lowest. Other bytes and the length stay (store-kept and store-length of
+-- .. and what is stored: of k bytes byte i is the value's byte k - 1 - i, counted from its lowest. Other bytes and the length stay (store_kept and store_length of
 -- crate word).
 pub store_by_bytes : (w : Width) (m : List ℕ) (a : ByteAddr) (v i : ℕ) → a.0 + bytes_of w ≤ length m → i < bytes_of w
     → get_or (store_of w m a v) (a.0 + i) 0 ≡ byte_no v (bytes_of w - 1 - i)
