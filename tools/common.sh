@@ -43,28 +43,40 @@ kit() {
     echo "${RATTLE_HOME:-$(dirname "$(dirname "$(readlink -f "$(command -v rt)")")")}"
 }
 
-# A digest of all that rt makes a file from: the kit, the list of the crates, and each of their files by name and content.
+# A digest of all that rt makes a file from: the kit, the list of the crates, and each of their files by name and content, but for
+# what rt itself keeps in out/.
 sources() {
     (
         cd "$root" || exit
         rt version
-        find crates.txt crates -type f -print0 | LC_ALL=C sort -z | xargs -0 sha256sum
+        find crates.txt crates -regex 'crates/[^/]*/out' -prune -o -type f -print0 | LC_ALL=C sort -z | xargs -0 sha256sum
     ) | sha256sum
 }
 
-# make_proved FILE WORDS: has FILE made by `rt WORDS` unless it stands as these sources gave it. FILE.made keeps their digest,
-# and FILE's own, since rt may have been called by hand with other sources in between.
+# make_proved FILE CRATE COMMAND: has FILE made by `rt COMMAND` in the crate's folder unless it stands as these sources gave it.
+# target/made/ keeps their digest, and FILE's own, since rt may have been called by hand with other sources in between.
+#
+# rt has no command that builds a program and runs nothing: `rt run` runs it too, here on no input. What it writes then, and with
+# which status it ends, says nothing of how it was made. That says the file alone, which is removed first.
 make_proved() {
-    local file=$1 sources
+    local file=$1 crate=$2 command=$3 made=$root/crates/$2/out/$2 record sources
+    [ "$command" != lib ] || made=$root/crates/$crate/out/lib$crate.a
+    record=$root/target/made/${file##*/}
     kit > /dev/null
     sources=$(sources)
-    if [ -e "$file" ] && [ "$sources $(sha256sum < "$file")" = "$(cat "$file.made" 2> /dev/null)" ]; then
+    if [ -e "$file" ] && [ "$sources $(sha256sum < "$file")" = "$(cat "$record" 2> /dev/null)" ]; then
         return
     fi
-    echo "$tool: making ${file#"$root/"} anew: rt ${*:2} proves the crates that it needs" >&2
-    rm -f "$file.made"
-    (cd "$root" && rt "${@:2}" < /dev/null >&2) || fail "rt ${*:2} failed"
-    echo "$sources $(sha256sum < "$file")" > "$file.made"
+    echo "$tool: making ${file#"$root/"} anew: rt $command proves crate $crate and those that it needs" >&2
+    mkdir -p "${record%/*}" "${file%/*}"
+    rm -f "$record" "$made"
+    (cd "$root/crates/$crate" && rt "$command" < /dev/null > "$record.log" 2>&1) || true
+    if [ ! -e "$made" ]; then
+        cat "$record.log" >&2
+        fail "rt $command made no ${made#"$root/"}"
+    fi
+    [ "$made" = "$file" ] || cp "$made" "$file"
+    echo "$sources $(sha256sum < "$file")" > "$record"
 }
 
 # run_program PROGRAM WORDS: runs a program of the kit, which is for x86-64. On another processor the kit's emulator runs it, with the
