@@ -9,7 +9,7 @@ import re
 
 NAME = re.compile(r'[^\s(){}.;,@"«»]+')
 MARKS = re.compile(r"((?:(?:unfoldable|abbrev|axiom|pub)\s+)*)(.*)", re.S)
-MODULE_FILE = re.compile(r"Rattle·(\w+)(?:·specs|·proofs)?\.(specs|proofs)\.(.+)")
+MODULE_FILE = re.compile(r"Rattle\.(\w+)\.(specs|proofs)\.(.+)")
 
 
 def read(path):
@@ -153,8 +153,8 @@ class Library:
         """The declarations whose names stand in this one."""
         file, found = self.file(declaration.file), []
 
-        def is_used(name):  # of an operator, as _+_, the parts between its places
-            return name in declaration.names or ("_" in name and all(part in declaration.names for part in name.split("_") if part))
+        def is_used(name):  # of an operator, as ◌+◌, the parts between its places
+            return name in declaration.names or ("◌" in name and all(part in declaration.names for part in name.split("◌") if part))
 
         for name in file.by_name:
             found += file.by_name[name] if is_used(name) else []

@@ -4,8 +4,8 @@
     sentence: document 02, ticket 6: "taken jump 2"
     theorem: sentences/costs
     file: crates/cpu/specs/Cycles.antt
-    old: costOf (Instr.Jr b) y c = 2
-    new: costOf (Instr.Jr b) y c = 3
+    old: cost_of (Instr.Jr b) y c = 2
+    new: cost_of (Instr.Jr b) y c = 3
     also: crates/machine/proofs/Laws.antt
     old: ..
     new: ..
