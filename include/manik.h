@@ -8,8 +8,8 @@
  * So calls on different buffers may run in different threads at the same time.
  *
  * "The rules" below are document 01's, which docs/MANIK.md restates. What manik_run answers is the definition `called` of
- * crates/abi/specs/Call.antt, what manik_show answers is `showOf` of crates/abi_show/specs/Show.antt, what manik_list answers is
- * `listedOf` of crates/listing/specs/Lent.antt, and what manik_assemble answers is `assembledOf` of
+ * crates/abi/specs/Call.antt, what manik_show answers is `show_of` of crates/abi_show/specs/Show.antt, what manik_list answers is
+ * `listed_of` of crates/listing/specs/Lent.antt, and what manik_assemble answers is `assembled_of` of
  * crates/asm/specs/Assemble.antt; each function is proved equal to its definition for every input.
  */
 #ifndef MANIK_H
