@@ -3,8 +3,8 @@
  *
  * tools/library makes the library for x86-64 Linux, four archives in target/staticlib: libabi.a has manik_run, libabi_show.a has
  * manik_show, libabi_list.a has manik_list, and libabi_asm.a has manik_assemble. docs/HOSTS.md shows programs with it. It needs
- * nothing but itself, and libabi_asm.a the C library's memset and memcpy: it calls no other function, keeps nothing between calls,
- * and reads and writes only what a call lends it.
+ * nothing but itself, and libabi_list.a and libabi_asm.a the C library's memset and memcpy: it calls no other function, keeps nothing
+ * between calls, and reads and writes only what a call lends it.
  * So calls on different buffers may run in different threads at the same time.
  *
  * "The rules" below are document 01's, which docs/MANIK.md restates. What manik_run answers is the definition `called` of
