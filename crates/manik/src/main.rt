@@ -7,7 +7,7 @@ mod fail;
 use explain::explain;
 use fail::fail;
 use script::{Phase, Reader};
-use std::io::Read;
+use std::io::{ErrorKind, Read};
 
 // After a part: more may come, the answer is fixed, or the input cannot be read.
 #[derive(Clone, Copy)]
@@ -90,10 +90,13 @@ fn read_all(
 }
 
 // The text's length is at most that of its room (`fits` of crates/answer/proofs/Theorems.antt), so nothing is cut.
+// Whoever closed a pipe wants no answer, and nothing is said.
 fn write_start(out: &impl Print, err: &impl Print, text: &[u8], n: usize) {
     let end = word::at_most(n, text.len());
     if let Err(e) = out.write_all(&text[..end]) {
-        fail(err, b"manik: standard output", e);
+        if e.kind() != ErrorKind::BrokenPipe {
+            fail(err, b"manik: standard output", e);
+        }
     }
 }
 

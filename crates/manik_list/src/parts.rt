@@ -4,6 +4,7 @@ ghost use Rattle.std.specs.Prelude.{◌≡◌, ◌++◌, ◌≤◌, ◌<◌, len
 ghost use Rattle.listing.specs.Listing.{listing_of};
 
 use crate::messages::fail;
+use std::io::ErrorKind;
 use word::ByteAddr;
 
 // So many bytes, and the address after their last line.
@@ -35,10 +36,12 @@ fn fill(out: &mut [u8], image: &[u8], start: u32, end: usize) -> Part
     Part { bytes: n, next: at }
 }
 
-// Whether it is written.
+// Whether it is written. Whoever closed a pipe wants no more, and nothing is said.
 fn write_part(to: &impl Print, err: &impl Print, out: &[u8], n: usize) -> bool {
     if let Err(e) = to.write_all(text::start_part(out, n)) {
-        fail(err, b"manik-list: standard output", e);
+        if e.kind() != ErrorKind::BrokenPipe {
+            fail(err, b"manik-list: standard output", e);
+        }
         return false;
     }
     true
