@@ -5,7 +5,7 @@ ghost use Rattle.word.specs.Bits.{num, field_of, on, with_field, with_bit};
 pub fn number(b: bool) -> u32
     ensures { (result ≡ num b) × (result ≤ 1) }
 {
-    if b { 1 } else { 0 }
+    u32::from(b)
 }
 
 pub fn power(i: u32) -> u64
@@ -37,10 +37,7 @@ pub fn is_on(p: u32, i: u32) -> bool
 pub fn with_field(p: u32, i: u32, w: u32, v: u32) -> u32
     ensures { result ≡ with_field p i w v }
 {
-    if 32 < w {
-        return p;
-    }
-    if 32 - w < i {
+    if 32 < w || 32 - w < i {
         return p;
     }
     let size = power(w);

@@ -23,9 +23,9 @@ pub struct HalfDisp(pub u32);
 // The size of an access: 1, 2 or 4 bytes.
 #[derive(Clone, Copy)]
 pub enum Width {
-    Byte,
-    Half,
-    Word,
+    Byte = 1,
+    Half = 2,
+    Word = 4,
 }
 
 // What an addition or a subtraction gives: the word, and its carry or borrow.
