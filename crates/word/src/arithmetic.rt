@@ -32,7 +32,7 @@ pub fn sub(x: u32, y: u32, c: bool) -> Sum
 pub fn mult(x: u32, y: u32) -> u32
     ensures { result ≡ product_of x y }
 {
-    (x as u64 * y as u64 % 4294967296) as u32
+    x.wrapping_mul(y)
 }
 
 pub fn lsl(x: u32, n: u32) -> u32

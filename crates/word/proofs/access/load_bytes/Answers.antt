@@ -1,4 +1,4 @@
-use Rattle.std.proofs.Common.{◌≡◌, ℕ, ◌+◌, ◌-◌, ◌*◌, ◌^◌, ◌<◌, ◌≤◌, List, length, take, drop, get_or, sym, ◌∙◌, arith, pow_mono, length-take, length-drop}
+use Rattle.std.proofs.Common.{◌≡◌, ℕ, ◌+◌, ◌-◌, ◌*◌, ◌^◌, ◌<◌, ◌≤◌, List, length, take, drop, get_or, sym, ◌∙◌, arith, pow_mono, length-take}
 use Rattle.std.proofs.lemmas.List.{get_or-take, get_or-drop}
 use Rattle.word.proofs.Memory.{load_none, load_more, byte_more}
 use Rattle.word.proofs.access.load_bytes.Goals as goal
