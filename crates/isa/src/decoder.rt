@@ -39,6 +39,7 @@ fn short_if(t: bool, i: Instr) -> Decoded
 }
 
 // The operands of a kind, from the bits that its first byte leaves.
+#[tactic(auto, unfolding(crate::specs::Decode::operands_of))]
 pub fn operands(k: Kind, first: u16, second: u16) -> Decoded
     ensures { result ≡ operands_of k first second }
 {
@@ -62,13 +63,14 @@ pub fn operands(k: Kind, first: u16, second: u16) -> Decoded
         Kind::Mtsfr => short_if(c <= 10, Instr::Mtsfr(c, d)),
         Kind::Jr => short_if(c == 0, Instr::Jr(d)),
         Kind::Jrl => short_if(c == 0, Instr::Jrl(d)),
-        Kind::Jsfr => short_if(word::both(c == 0, d <= 3), Instr::Jsfr(d)),
+        Kind::Jsfr => short_if(c == 0 && d <= 3, Instr::Jsfr(d)),
         Kind::Swint => short_if(c == 0, Instr::Swint(d)),
         Kind::ShortJump(op) => Decoded::Short(Instr::ShortJump(op, near(first))),
         Kind::LongJump(op) => Decoded::Long(Instr::LongJump(op, far(first, second))),
     }
 }
 
+#[tactic(auto, unfolding(crate::specs::Decode::decode_of))]
 pub fn decode(first: u16, second: u16) -> Decoded
     ensures { result ≡ decode_of first second }
 {

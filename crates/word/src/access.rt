@@ -50,6 +50,7 @@ fn store_bytes(m: &mut [u8], at: u32, n: u32, v: u32)
     }
 }
 
+// The width is matched, so that each loop has its number of bytes: with one that is not known an access costs ten instructions and more.
 pub fn load(w: Width, m: &[u8], at: ByteAddr) -> u32
     ensures { result ≡ load_of w m.now at }
 {

@@ -1,32 +1,22 @@
-use native.Mathlib.Omega.{arith}
-use Prim.Native.Nat.{◌/◌}
-use mathlib.Core.Path.{◌≡◌}
+use Rattle.std.proofs.Common.{◌≡◌, ◌-◌, ◌/◌, ◌%◌, arith, lt-ltb}
 use Rattle.isa.proofs.Rows.{upper}
-use borrow.Author.Tests.{lt-ltb, le-ltb}
 use Rattle.isa.specs.Codes.{kind_of}
 use Rattle.isa.proofs.kinds.kind_of.Goals as goal
 
-pub returns-then-byte-lt16 : goal.returns-then-byte-lt16
+pub returns-in-0-to-15 : goal.returns-in-0-to-15
 unfolding kind_of
-returns-then-byte-lt16 c =
-    let e : c.args.byte / 16 ≡ 0 = omega arith in
-    rw (c.shift_kind.ensures, lt-ltb _ _ c.if-byte-lt64.true, e)
+returns-in-0-to-15 c =
+    let q : c.args.byte / 16 ≡ 0 = omega arith in
+    let r : c.args.byte % 16 ≡ c.args.byte = omega arith in
+    rw (c.shift_kind.ensures, lt-ltb c.args.byte 64 (omega arith), q, r)
 
-pub returns-else-byte-lt16 : goal.returns-else-byte-lt16
+pub returns-in-16-to-31 : goal.returns-in-16-to-31
 unfolding kind_of
-returns-else-byte-lt16 c =
-    let e : c.args.byte / 16 ≡ 1 = omega arith in
-    rw (c.system_kind.ensures, lt-ltb _ _ c.if-byte-lt64.true, e)
+returns-in-16-to-31 c =
+    let q : c.args.byte / 16 ≡ 1 = omega arith in
+    let r : c.args.byte % 16 ≡ c.args.byte - 16 = omega arith in
+    rw (c.system_kind.ensures, lt-ltb c.args.byte 64 (omega arith), q, r)
 
-pub returns-else-byte-lt32 : goal.returns-else-byte-lt32
+pub returns-in-32-to-63 : goal.returns-in-32-to-63
 unfolding kind_of
-returns-else-byte-lt32 c =
-    rw (c.upper_kind.ensures, lt-ltb _ _ c.if-byte-lt64.true) (upper c.args.byte c.if-byte-lt32.false c.if-byte-lt64.true)
-
-pub returns-then-byte-lt224 : goal.returns-then-byte-lt224
-unfolding kind_of
-returns-then-byte-lt224 c = rw (c.fixed_kind.ensures, lt-ltb _ _ c.if-byte-lt224.true, le-ltb _ _ c.if-byte-lt64.false)
-
-pub returns-else-byte-lt224 : goal.returns-else-byte-lt224
-unfolding kind_of
-returns-else-byte-lt224 c = rw (c.jump_kind.ensures, le-ltb _ _ c.if-byte-lt224.false, le-ltb _ _ c.if-byte-lt64.false)
+returns-in-32-to-63 c = rw (c.upper_kind.ensures, lt-ltb c.args.byte 64 (omega arith)) (upper c.args.byte (omega arith) (omega arith))
