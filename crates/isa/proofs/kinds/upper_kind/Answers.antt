@@ -8,5 +8,5 @@ use Rattle.isa.proofs.kinds.upper_kind.Goals as goal
 pub returns-in_default : goal.returns-in_default
 returns-in_default c =
     let k = c.args.k in
-    let h : 32 ≤ k = rest_past 32 k c.in_default.in_default-own.rest in
+    let h : 32 ≤ k = omega arith in
     rw (le-ltb k 16 (omega arith)) (past test_row (k - 16) (omega arith))
