@@ -1,7 +1,7 @@
 use native.Mathlib.Omega.{arith}
 use Prim.Native.Nat.{◌-◌, ◌≤◌}
 use Rattle.isa.specs.Codes.{test_row}
-use Rattle.isa.proofs.Rows.{past, rest_past}
+use Rattle.isa.proofs.Rows.{past}
 use borrow.Author.Tests.{le-ltb}
 use Rattle.isa.proofs.kinds.upper_kind.Goals as goal
 
