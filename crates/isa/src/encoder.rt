@@ -34,46 +34,46 @@ fn store_no(w: Width) -> u32
     load_no(w) + 1
 }
 
-fn when(t: bool, e: Encoded) -> Encoded
+fn when(t: bool, e: Option<Encoded>) -> Option<Encoded>
     ensures { result ≡ only t e }
 {
-    if t { e } else { Encoded::Nothing }
+    if t { e } else { None }
 }
 
 #[tactic(auto, unfolding(crate::specs::Encode::nibs_of))]
-fn nibs(a: u32, b: u32, c: u32, d: u32) -> Encoded
+fn nibs(a: u32, b: u32, c: u32, d: u32) -> Option<Encoded>
     ensures { result ≡ nibs_of a b c d }
 {
     if a < 16 && b < 16 && c < 16 && d < 16 {
-        Encoded::Half((a * 4096 + b * 256 + c * 16 + d) as u16)
+        Some(Encoded::Half((a * 4096 + b * 256 + c * 16 + d) as u16))
     } else {
-        Encoded::Nothing
+        None
     }
 }
 
 #[tactic(auto, unfolding(crate::specs::Encode::nibs_signed))]
-fn nibs_signed(b: u32, c: u32, x: u32) -> Encoded
+fn nibs_signed(b: u32, c: u32, x: u32) -> Option<Encoded>
     ensures { result ≡ nibs_signed b c x }
 {
     when(word::fits(4, x), nibs(3, b, c, x % 16))
 }
 
 #[tactic(auto, unfolding(crate::specs::Encode::nibs_byte))]
-fn nibs_byte(a: u32, c: u32, n: u32) -> Encoded
+fn nibs_byte(a: u32, c: u32, n: u32) -> Option<Encoded>
     ensures { result ≡ nibs_byte a c n }
 {
     when(n < 256, nibs(a, n / 16, c, n % 16))
 }
 
 #[tactic(auto, unfolding(crate::specs::Encode::nibs_signed_byte))]
-fn nibs_signed_byte(a: u32, c: u32, x: u32) -> Encoded
+fn nibs_signed_byte(a: u32, c: u32, x: u32) -> Option<Encoded>
     ensures { result ≡ nibs_signed_byte a c x }
 {
     when(word::fits(8, x), nibs_byte(a, c, x % 256))
 }
 
 #[tactic(auto, unfolding(crate::specs::Encode::encode_imm))]
-fn encode_imm(op: ImmOp, c: u32, x: u32) -> Encoded
+fn encode_imm(op: ImmOp, c: u32, x: u32) -> Option<Encoded>
     ensures { result ≡ encode_imm op c x }
 {
     match op {
@@ -83,29 +83,26 @@ fn encode_imm(op: ImmOp, c: u32, x: u32) -> Encoded
 }
 
 #[tactic(auto, unfolding(crate::specs::Encode::encode_short))]
-fn encode_short(op: ShortOp, d: HalfDisp) -> Encoded
+fn encode_short(op: ShortOp, d: HalfDisp) -> Option<Encoded>
     ensures { result ≡ encode_short op d }
 {
     let x = d.0;
     let bits = op as u32 * 1024 + x % 1024;
-    when(word::fits(10, x), Encoded::Half(bits as u16))
+    word::fits(10, x).then_some(Encoded::Half(bits as u16))
 }
 
 #[tactic(auto, unfolding(crate::specs::Encode::encode_long))]
-fn encode_long(op: LongOp, d: HalfDisp) -> Encoded
+fn encode_long(op: LongOp, d: HalfDisp) -> Option<Encoded>
     ensures { result ≡ encode_long op d }
 {
     let x = d.0;
     let bits = x % 67108864;
     let first = op as u32 * 1024 + bits / 65536;
-    when(
-        word::fits(26, x),
-        Encoded::Pair(first as u16, (bits % 65536) as u16),
-    )
+    word::fits(26, x).then_some(Encoded::Pair(first as u16, (bits % 65536) as u16))
 }
 
 #[tactic(auto, unfolding(crate::specs::Encode::encode_of))]
-pub fn encode(i: Instr) -> Encoded
+pub fn encode(i: Instr) -> Option<Encoded>
     ensures { result ≡ encode_of i }
 {
     match i {

@@ -6,9 +6,9 @@ use isa::{Decoded, Instr};
 
 fn decode_pair(t: &mut [Tally; MNEMONICS], first: u16, second: u16) {
     match isa::decode(first, second) {
-        Decoded::Short(i) => t[mnemonic(first)].add_decoded(first, second, 2, i),
-        Decoded::Long(i) => t[mnemonic(first)].add_decoded(first, second, 4, i),
-        Decoded::Nothing => t[NONE].add_pair(first, second),
+        Some(Decoded::Short(i)) => t[mnemonic(first)].add_decoded(first, second, 2, i),
+        Some(Decoded::Long(i)) => t[mnemonic(first)].add_decoded(first, second, 4, i),
+        None => t[NONE].add_pair(first, second),
     }
 }
 
@@ -50,9 +50,8 @@ fn encode_first(tally: &mut Tally, i: Instr) {
 
 pub fn encode_all(t: &mut [Tally; MNEMONICS]) {
     for first in 0..=u16::MAX {
-        match isa::decode(first, 0) {
-            Decoded::Short(i) | Decoded::Long(i) => encode_first(&mut t[mnemonic(first)], i),
-            Decoded::Nothing => {}
+        if let Some(Decoded::Short(i) | Decoded::Long(i)) = isa::decode(first, 0) {
+            encode_first(&mut t[mnemonic(first)], i);
         }
     }
 }

@@ -38,10 +38,10 @@ impl Tally {
 
     pub fn add_encoded(&mut self, i: Instr) {
         let e = isa::encode(i);
-        if matches!(e, Encoded::Nothing) {
-            self.without_bits = self.without_bits.wrapping_add(1);
-        } else {
+        if e.is_some() {
             self.with_bits = self.with_bits.wrapping_add(1);
+        } else {
+            self.without_bits = self.without_bits.wrapping_add(1);
         }
         self.digest = fold_instruction(self.digest, i, e);
     }
@@ -52,11 +52,11 @@ pub fn fold_all(d: u64, numbers: &[u32]) -> u64 {
 }
 
 // An instruction's operands, how many halves it has, and the halves.
-fn fold_instruction(d: u64, i: Instr, e: Encoded) -> u64 {
+fn fold_instruction(d: u64, i: Instr, e: Option<Encoded>) -> u64 {
     let (halves, first, second) = match e {
-        Encoded::Half(first) => (1, first, 0),
-        Encoded::Pair(first, second) => (2, first, second),
-        Encoded::Nothing => (0, 0, 0),
+        Some(Encoded::Half(first)) => (1, first, 0),
+        Some(Encoded::Pair(first, second)) => (2, first, second),
+        None => (0, 0, 0),
     };
     let d = fold_all(d, &operands(i));
     fold_all(d, &[halves, u32::from(first), u32::from(second)])
