@@ -15,6 +15,7 @@ pub fn power(i: u32) -> u64
     1u64 << i
 }
 
+#[tactic(auto, using(crate::proofs::Numbers::field_past, crate::proofs::Numbers::field_rest))]
 pub fn field(p: u32, i: u32, w: u32) -> u32
     ensures { result ≡ field_of p i w }
 {
@@ -34,6 +35,7 @@ pub fn is_on(p: u32, i: u32) -> bool
     field(p, i, 1) == 1
 }
 
+#[tactic(auto, using(crate::proofs::Fields::top_fits, crate::proofs::Fields::whole_fits), unfolding(crate::specs::Bits::put))]
 pub fn with_field(p: u32, i: u32, w: u32, v: u32) -> u32
     ensures { result ≡ with_field p i w v }
 {
