@@ -1,24 +1,17 @@
-use Rattle.std.proofs.Common.{rules, tests, arith, ◌≡◌, ◌+◌, ◌-◌, ℕ, zero, suc, Bool, false, true, ◌||◌, refl, sym, ap, ◌∙◌, List}
+use Rattle.std.proofs.Common.{rules, tests, arith, ◌≡◌, ◌+◌, ℕ, zero, suc, Bool, ◌||◌, refl, sym, ap, ◌∙◌}
+use Rattle.std.proofs.Math.Bool.{or-false, or_assoc}
 use Rattle.std.specs.List.{list_any, range_with_len}
 use Rattle.std.proofs.lemmas.Iterator.{YieldsList-from_range}
 use Rattle.std.proofs.lemmas.Iterator.Search.{any_from_yields_List}
 use Rattle.marks.specs.Memory.{Marks, bits, mark_at, any_mark}
 use Rattle.marks.proofs.memory.any_one_by_one.Goals as goal
 
-or_assoc : (a b c : Bool) → (a || (b || c)) ≡ ((a || b) || c)
-or_assoc true b c = refl
-or_assoc false b c = refl
-
-or_end : (b : Bool) → (b || false) ≡ b
-or_end true = refl
-or_end false = refl
-
 -- a range's last number, where the definition has its first
 one_more : (test : ℕ → Bool) (a n : ℕ) → list_any test (range_with_len a (suc n)) ≡ (list_any test (range_with_len a n) || test (a + n))
-one_more test a zero = let e : a + 0 ≡ a = omega arith in rw e (or_end (test a))
+one_more test a zero = let e : a + 0 ≡ a = omega arith in rw e (or-false (test a))
 one_more test a (suc n) =
     let e : a + 1 + n ≡ a + suc n = omega arith in
-    ap (◌||◌ (test a)) (one_more test (a + 1) n) ∙ or_assoc (test a) _ _ ∙ ap (λ m. list_any test (range_with_len a (suc n)) || test m) e
+    ap (◌||◌ (test a)) (one_more test (a + 1) n) ∙ sym (or_assoc (test a) _ _) ∙ ap (λ m. list_any test (range_with_len a (suc n)) || test m) e
 
 any_counted : (n : ℕ) (k : Marks) (i : ℕ) → list_any (λ j. mark_at k (i + j)) (range_with_len 0 n) ≡ any_mark n k i
 unfolding any_mark

@@ -1,6 +1,4 @@
-use Prim.Native.Nat.{◌-◌, ◌≤◌}
 use mathlib.Core.Path.{◌≡◌}
-use lib.ListN.{length}
 use Rattle.marks.specs.Memory.{bits, put_marks}
 use Rattle.marks.proofs.memory.put_one_by_one.Given as goal
 
