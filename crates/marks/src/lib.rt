@@ -60,9 +60,8 @@ pub fn mark_alu(op: AluOp, mx: bool, my: bool, tf: bool, cy: bool) -> Taint
         AluOp::Sub | AluOp::Add => mark_sum(mx || my, tf, cy),
         AluOp::Subc | AluOp::Addc => mark_sum(mx || my || cy, tf, cy),
         AluOp::Mov | AluOp::Sxb | AluOp::Xhw | AluOp::Sxh | AluOp::Zxh => mark_reg(my, tf, cy),
-        AluOp::And | AluOp::Or | AluOp::Xor | AluOp::Lsl | AluOp::Lsr | AluOp::Asr | AluOp::Mult => {
-            mark_two(mx, my, tf, cy)
-        }
+        AluOp::And | AluOp::Or | AluOp::Xor | AluOp::Mult => mark_two(mx, my, tf, cy),
+        AluOp::Lsl | AluOp::Lsr | AluOp::Asr => mark_two(mx, my, tf, cy),
     }
 }
 

@@ -6,7 +6,7 @@ ghost use Rattle.marks.specs.Parts.{is_clear};
 
 use word::{ByteAddr, Width};
 
-// ---- one bit of a byte, by shift and mask
+// ---- one bit of a byte, by shift and mask: the project's rule for marks (docs/SENTENCES.md). `word::with_bit` replaces a field by division instead.
 
 fn is_set(b: u8, s: u32) -> bool
     requires { s < 8 }
