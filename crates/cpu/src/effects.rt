@@ -9,18 +9,21 @@ use crate::places::{with_pc, with_psw, with_ra};
 use crate::{Control, Effect, NO_REG};
 use word::{ByteAddr, HalfDisp, Width};
 
+#[tactic(auto, unfolding(crate::specs::Exec::onward))]
 pub fn go_on(n: u32, c: Control) -> Control
     ensures { result ≡ onward n c }
 {
     with_pc(c, word::byte_sum(ByteAddr(c.pc), n))
 }
 
+#[tactic(auto, unfolding(crate::specs::Exec::go_to))]
 pub fn go_to(a: u32, c: Control) -> Control
     ensures { result ≡ go_to a c }
 {
     with_pc(c, word::align(Width::Half, ByteAddr(a)))
 }
 
+#[tactic(auto, unfolding(crate::specs::Exec::linked))]
 pub fn link(c: Control) -> Control
     ensures { result ≡ linked c }
 {
@@ -28,6 +31,7 @@ pub fn link(c: Control) -> Control
     with_ra(c, after.0)
 }
 
+#[tactic(auto, unfolding(crate::specs::Exec::jump))]
 pub fn jump_by(d: HalfDisp, c: Control) -> Control
     ensures { result ≡ jump d c }
 {
@@ -37,7 +41,7 @@ pub fn jump_by(d: HalfDisp, c: Control) -> Control
 pub fn is_wanted(t: bool, c: Control) -> bool
     ensures { result ≡ wants t c }
 {
-    word::same(word::is_on(c.psw, 8), t)
+    word::is_on(c.psw, 8) == t
 }
 
 // A register and the next instruction, at a cost.
@@ -72,6 +76,7 @@ pub fn move_to(cost: u8, c: Control) -> Effect
     }
 }
 
+#[tactic(auto, unfolding(crate::specs::Exec::branch))]
 pub fn branch_by(t: bool, d: HalfDisp, n: u32, c: Control) -> Effect
     ensures { result ≡ costing (branch_cost t c) (moves (branch t d n c)) }
 {

@@ -20,6 +20,7 @@ fn vector_at(low: u32, c: Control) -> ByteAddr
     ByteAddr(word::with_field(c.ibase, 0, 8, low))
 }
 
+#[tactic(auto, unfolding(crate::specs::Entries::enter))]
 fn enter_at(low: u32, c: Control) -> Control
     ensures { result ≡ enter low c }
 {
@@ -28,6 +29,7 @@ fn enter_at(low: u32, c: Control) -> Control
     with_pc(with_ipc(on, c.pc), vector_at(low, c))
 }
 
+#[tactic(auto, unfolding(crate::specs::Entries::entered))]
 pub fn enter_swint(n: u32, c: Control) -> Control
     ensures { result ≡ entered (Entry.Swint n) c }
 {
@@ -35,6 +37,7 @@ pub fn enter_swint(n: u32, c: Control) -> Control
     enter_at(4, with_psw(c, word::with_bit(p, 0, true)))
 }
 
+#[tactic(auto, unfolding(crate::specs::Entries::entered))]
 fn enter_debug(hit: u32, c: Control) -> Control
     ensures { result ≡ entered (Entry.Debug hit) c }
 {
@@ -43,6 +46,7 @@ fn enter_debug(hit: u32, c: Control) -> Control
     enter_at(4, with_hwdbg(clear, word::with_field(c.hwdbg, 6, 3, hit)))
 }
 
+#[tactic(auto, unfolding(crate::specs::Entries::entered))]
 fn enter_timer(c: Control) -> Control
     ensures { result ≡ entered Entry.Timer c }
 {
@@ -50,6 +54,7 @@ fn enter_timer(c: Control) -> Control
     enter_at(8, with_pending(t, false))
 }
 
+#[tactic(auto, unfolding(crate::specs::Entries::entered))]
 fn enter_external(i: u32, c: Control) -> Control
     ensures { result ≡ entered (Entry.External i) c }
 {
@@ -65,6 +70,7 @@ fn enter_error(bit: u32, c: Control) -> Control
 }
 
 // A fetch outside memory.
+#[tactic(auto, unfolding(crate::specs::Entries::entered))]
 pub fn fetch_error(c: Control) -> Control
     ensures { result ≡ entered Entry.FetchError c }
 {
@@ -72,12 +78,14 @@ pub fn fetch_error(c: Control) -> Control
 }
 
 // Data outside memory: the entry is made at the next instruction.
+#[tactic(auto, unfolding(crate::specs::Entries::entered))]
 pub fn data_error(c: Control) -> Control
     ensures { result ≡ entered Entry.DataError (onward 2 c) }
 {
     enter_error(14, go_on(2, c))
 }
 
+#[tactic(auto, unfolding(crate::specs::Entries::entered))]
 pub fn enter(e: Entry, c: Control) -> Control
     ensures { result ≡ entered e c }
 {
@@ -95,26 +103,27 @@ pub fn enter(e: Entry, c: Control) -> Control
 fn is_hit(enabled: bool, a: u32, b: u32) -> bool
     ensures { result ≡ (enabled && a == b) }
 {
-    word::both(enabled, a == b)
+    enabled && a == b
 }
 
+#[tactic(auto, unfolding(crate::specs::Entries::is_break))]
 pub fn has_break(c: Control) -> bool
     ensures { result ≡ is_break c }
 {
-    let zero = is_hit(word::is_on(c.hwdbg, 2), c.bp0, c.pc);
-    let one = is_hit(word::is_on(c.hwdbg, 3), c.bp1, c.pc);
-    word::either(zero, one)
+    is_hit(word::is_on(c.hwdbg, 2), c.bp0, c.pc) || is_hit(word::is_on(c.hwdbg, 3), c.bp1, c.pc)
 }
 
+#[tactic(auto, unfolding(crate::specs::Entries::watch_hit))]
 fn watch_hit(a: ByteAddr, c: Control) -> u32
     ensures { result ≡ watch_hit a c }
 {
     let zero = is_hit(word::is_on(c.hwdbg, 4), c.wp0, a.0);
     let one = is_hit(word::is_on(c.hwdbg, 5), c.wp1, a.0);
-    word::number(zero) * 2 + word::number(one) * 4
+    u32::from(zero) * 2 + u32::from(one) * 4
 }
 
 // Mostly no watchpoint is enabled, and then none is compared.
+#[tactic(auto, unfolding(crate::specs::Entries::watch_entry))]
 pub fn watch(a: ByteAddr, c: Control) -> Entry
     ensures { result ≡ watch_entry a c }
 {
@@ -130,6 +139,7 @@ pub fn watch(a: ByteAddr, c: Control) -> Entry
 }
 
 // The same entry made, or none. An entry that is made where it is known costs the machine's loop less than one that is matched again.
+#[tactic(auto, unfolding(crate::specs::Entries::watch_entry, crate::specs::Entries::entered))]
 pub fn enter_watch(a: ByteAddr, c: Control) -> Control
     ensures { result ≡ entered (watch_entry a c) c }
 {
@@ -151,6 +161,7 @@ fn fall_by(n: u32, c: Control) -> Control
 }
 
 // What a watchpoint's entry adds to its load or store.
+#[tactic(auto, unfolding(crate::specs::Entries::watch_entry, crate::specs::Cycles::entry_cost))]
 pub fn watch_cost(a: ByteAddr, c: Control) -> u8
     ensures { result ≡ entry_cost (watch_entry a c) }
 {
@@ -161,21 +172,19 @@ pub fn watch_cost(a: ByteAddr, c: Control) -> u8
 }
 
 // What an entry adds to its instruction's cost.
+#[tactic(auto, unfolding(crate::specs::Cycles::entry_cost))]
 pub fn entry_cost(e: Entry) -> u8
     ensures { result ≡ entry_cost e }
 {
     match e {
-        Entry::Nothing => 0,
-        Entry::Swint(_) => 0,
-        Entry::Debug(_) => 4,
-        Entry::Timer => 4,
-        Entry::External(_) => 4,
-        Entry::FetchError => 4,
-        Entry::DataError => 4,
+        Entry::Nothing | Entry::Swint(_) => 0,
+        Entry::Debug(_) | Entry::Timer | Entry::External(_) => 4,
+        Entry::FetchError | Entry::DataError => 4,
     }
 }
 
 // A match on TIMER costs the compiler fewer instructions than a comparison.
+#[tactic(auto, unfolding(crate::specs::Entries::fallen))]
 fn fall(te: bool, n: u32, c: Control) -> Control
     ensures { result ≡ fallen te n c }
 {
@@ -191,8 +200,9 @@ fn fall(te: bool, n: u32, c: Control) -> Control
 }
 
 // A step of cost n goes by.
+#[tactic(auto, unfolding(crate::specs::Entries::passed))]
 pub fn pass(te: bool, n: u32, c: Control) -> Control
     ensures { result ≡ passed te n c }
 {
-    with_cycles(fall(te, n, c), std::num::wrapping_add_u32(c.cycles, n))
+    with_cycles(fall(te, n, c), c.cycles.wrapping_add(n))
 }

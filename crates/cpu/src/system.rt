@@ -9,6 +9,7 @@ use crate::{Control, Effect, NO_REG};
 use isa::{LongOp, ShortOp};
 use word::HalfDisp;
 
+#[tactic(auto, unfolding(crate::specs::Exec::exec, crate::specs::Exec::makes, crate::specs::Cycles::cost_of))]
 pub fn mfsfr(d: u32, n: u32, c: Control) -> Effect
     ensures { result ≡ exec (Instr.Mfsfr d n) 0 0 0 c }
 {
@@ -18,9 +19,10 @@ pub fn mfsfr(d: u32, n: u32, c: Control) -> Effect
 fn is_accepted(c: Control) -> bool
     ensures { result ≡ accepted c }
 {
-    word::either(!word::is_on(c.psw, 3), word::is_on(c.psw, 2))
+    !word::is_on(c.psw, 3) || word::is_on(c.psw, 2)
 }
 
+#[tactic(auto, unfolding(crate::specs::Exec::timer_written))]
 fn write_timer(v: u32, c: Control) -> Control
     ensures { result ≡ timer_written v c }
 {
@@ -31,6 +33,7 @@ fn write_timer(v: u32, c: Control) -> Control
     }
 }
 
+#[tactic(auto, unfolding(crate::specs::Exec::psw_written))]
 fn keep_psw(p: u32, v: u32) -> u32
     ensures { result ≡ psw_written p v }
 {
@@ -38,21 +41,19 @@ fn keep_psw(p: u32, v: u32) -> u32
     word::with_field(a, 26, 6, word::field(p, 26, 6))
 }
 
+#[tactic(auto, unfolding(crate::specs::Exec::written))]
 fn write_sfr(n: u32, v: u32, c: Control) -> Control
     ensures { result ≡ written n v c }
 {
-    if n == 0 {
-        return with_psw(c, keep_psw(c.psw, v));
+    match n {
+        0 => with_psw(c, keep_psw(c.psw, v)),
+        3 => write_timer(v, c),
+        6 => with_hwdbg(c, word::with_field(c.hwdbg, 2, 4, word::field(v, 2, 4))),
+        _ => with_sfr(n, c, v),
     }
-    if n == 3 {
-        return write_timer(v, c);
-    }
-    if n == 6 {
-        return with_hwdbg(c, word::with_field(c.hwdbg, 2, 4, word::field(v, 2, 4)));
-    }
-    with_sfr(n, c, v)
 }
 
+#[tactic(auto, unfolding(crate::specs::Exec::exec, crate::specs::Exec::makes, crate::specs::Cycles::cost_of))]
 pub fn mtsfr(n: u32, y: u32, c: Control) -> Effect
     ensures { result ≡ exec (Instr.Mtsfr n 0) 0 y 0 c }
 {
@@ -60,23 +61,26 @@ pub fn mtsfr(n: u32, y: u32, c: Control) -> Effect
         control: go_on(2, write_sfr(n, y, c)),
         reg: NO_REG,
         value: 0,
-        wrote: word::both(n == 3, is_accepted(c)),
+        wrote: n == 3 && is_accepted(c),
         cost: 1,
     }
 }
 
+#[tactic(auto, unfolding(crate::specs::Exec::exec, crate::specs::Exec::makes, crate::specs::Cycles::cost_of))]
 pub fn jr(y: u32, c: Control) -> Effect
     ensures { result ≡ exec (Instr.Jr 0) 0 y 0 c }
 {
     move_to(2, go_to(y, c))
 }
 
+#[tactic(auto, unfolding(crate::specs::Exec::exec, crate::specs::Exec::makes, crate::specs::Cycles::cost_of))]
 pub fn jrl(y: u32, c: Control) -> Effect
     ensures { result ≡ exec (Instr.Jrl 0) 0 y 0 c }
 {
     move_to(2, go_to(y, link(c)))
 }
 
+#[tactic(auto, unfolding(crate::specs::Exec::leave))]
 fn leave_by(n: u32, c: Control) -> Control
     ensures { result ≡ leave n c }
 {
@@ -88,18 +92,21 @@ fn leave_by(n: u32, c: Control) -> Control
     }
 }
 
+#[tactic(auto, unfolding(crate::specs::Exec::exec, crate::specs::Exec::makes, crate::specs::Cycles::cost_of))]
 pub fn jsfr(n: u32, c: Control) -> Effect
     ensures { result ≡ exec (Instr.Jsfr n) 0 0 0 c }
 {
     move_to(2, go_to(sfr_of(n, c), leave_by(n, c)))
 }
 
+#[tactic(auto, unfolding(crate::specs::Exec::exec, crate::specs::Exec::makes, crate::specs::Cycles::cost_of))]
 pub fn swint(n: u32, c: Control) -> Effect
     ensures { result ≡ exec (Instr.Swint n) 0 0 0 c }
 {
     move_to(2, go_on(2, c))
 }
 
+#[tactic(auto, unfolding(crate::specs::Exec::exec, crate::specs::Exec::makes, crate::specs::Cycles::cost_of))]
 pub fn short_jump(op: ShortOp, d: HalfDisp, c: Control) -> Effect
     ensures { result ≡ exec (Instr.ShortJump op d) 0 0 0 c }
 {
@@ -110,6 +117,7 @@ pub fn short_jump(op: ShortOp, d: HalfDisp, c: Control) -> Effect
     }
 }
 
+#[tactic(auto, unfolding(crate::specs::Exec::exec, crate::specs::Exec::makes, crate::specs::Cycles::cost_of))]
 pub fn long_jump(op: LongOp, d: HalfDisp, c: Control) -> Effect
     ensures { result ≡ exec (Instr.LongJump op d) 0 0 0 c }
 {
