@@ -1,4 +1,6 @@
 // The program counter, and the effect of an instruction: a register, or only the control part.
+#![tactic(auto, unfolding(crate::specs::Exec::branch, crate::specs::Exec::onward, crate::specs::Exec::go_to, crate::specs::Exec::jump, crate::specs::Exec::linked))]
+
 ghost use Rattle.std.specs.Prelude.{◌≡◌, false, if◌then◌else◌};
 ghost use Rattle.word.specs.Numbers.{sum_of, difference_of};
 ghost use Rattle.cpu.specs.Control.{wants, with_tf, with_cy};
@@ -9,21 +11,18 @@ use crate::places::{with_pc, with_psw, with_ra};
 use crate::{Control, Effect, NO_REG};
 use word::{ByteAddr, HalfDisp, Width};
 
-#[tactic(auto, unfolding(crate::specs::Exec::onward))]
 pub fn go_on(n: u32, c: Control) -> Control
     ensures { result ≡ onward n c }
 {
     with_pc(c, word::byte_sum(ByteAddr(c.pc), n))
 }
 
-#[tactic(auto, unfolding(crate::specs::Exec::go_to))]
 pub fn go_to(a: u32, c: Control) -> Control
     ensures { result ≡ go_to a c }
 {
     with_pc(c, word::align(Width::Half, ByteAddr(a)))
 }
 
-#[tactic(auto, unfolding(crate::specs::Exec::linked))]
 pub fn link(c: Control) -> Control
     ensures { result ≡ linked c }
 {
@@ -31,7 +30,6 @@ pub fn link(c: Control) -> Control
     with_ra(c, after.0)
 }
 
-#[tactic(auto, unfolding(crate::specs::Exec::jump))]
 pub fn jump_by(d: HalfDisp, c: Control) -> Control
     ensures { result ≡ jump d c }
 {
@@ -76,7 +74,6 @@ pub fn move_to(cost: u8, c: Control) -> Effect
     }
 }
 
-#[tactic(auto, unfolding(crate::specs::Exec::branch))]
 pub fn branch_by(t: bool, d: HalfDisp, n: u32, c: Control) -> Effect
     ensures { result ≡ costing (branch_cost t c) (moves (branch t d n c)) }
 {

@@ -1,5 +1,7 @@
 // Entries, breakpoints, watchpoints and the timer.
-ghost use Rattle.std.specs.Prelude.{◌≡◌, ◌-◌, true, ◌&&◌, ◌||◌, ◌==◌, nat_le};
+#![tactic(auto, unfolding(crate::specs::Entries::enter, crate::specs::Entries::entered, crate::specs::Entries::is_break, crate::specs::Entries::watch_hit, crate::specs::Entries::watch_entry, crate::specs::Entries::fallen, crate::specs::Entries::passed, crate::specs::Cycles::entry_cost))]
+
+ghost use Rattle.std.specs.Prelude.{◌≡◌, ◌-◌, true, ◌&&◌, ◌||◌, ◌==◌, if◌then◌else◌, Option, Some, None, nat_le, nat_lt};
 ghost use Rattle.word.specs.Bits.{with_bit};
 ghost use Rattle.cpu.specs.Control.{with_psw, with_timer};
 ghost use Rattle.cpu.specs.Entries.{vector, enter, entered, is_break, watch_hit, watch_entry, fallen, passed};
@@ -20,7 +22,6 @@ fn vector_at(low: u32, c: Control) -> ByteAddr
     ByteAddr(word::with_field(c.ibase, 0, 8, low))
 }
 
-#[tactic(auto, unfolding(crate::specs::Entries::enter))]
 fn enter_at(low: u32, c: Control) -> Control
     ensures { result ≡ enter low c }
 {
@@ -29,7 +30,6 @@ fn enter_at(low: u32, c: Control) -> Control
     with_pc(with_ipc(on, c.pc), vector_at(low, c))
 }
 
-#[tactic(auto, unfolding(crate::specs::Entries::entered))]
 pub fn enter_swint(n: u32, c: Control) -> Control
     ensures { result ≡ entered (Entry.Swint n) c }
 {
@@ -37,7 +37,6 @@ pub fn enter_swint(n: u32, c: Control) -> Control
     enter_at(4, with_psw(c, word::with_bit(p, 0, true)))
 }
 
-#[tactic(auto, unfolding(crate::specs::Entries::entered))]
 fn enter_debug(hit: u32, c: Control) -> Control
     ensures { result ≡ entered (Entry.Debug hit) c }
 {
@@ -46,7 +45,6 @@ fn enter_debug(hit: u32, c: Control) -> Control
     enter_at(4, with_hwdbg(clear, word::with_field(c.hwdbg, 6, 3, hit)))
 }
 
-#[tactic(auto, unfolding(crate::specs::Entries::entered))]
 fn enter_timer(c: Control) -> Control
     ensures { result ≡ entered Entry.Timer c }
 {
@@ -54,7 +52,6 @@ fn enter_timer(c: Control) -> Control
     enter_at(8, with_pending(t, false))
 }
 
-#[tactic(auto, unfolding(crate::specs::Entries::entered))]
 fn enter_external(i: u32, c: Control) -> Control
     ensures { result ≡ entered (Entry.External i) c }
 {
@@ -70,7 +67,6 @@ fn enter_error(bit: u32, c: Control) -> Control
 }
 
 // A fetch outside memory.
-#[tactic(auto, unfolding(crate::specs::Entries::entered))]
 pub fn fetch_error(c: Control) -> Control
     ensures { result ≡ entered Entry.FetchError c }
 {
@@ -78,14 +74,12 @@ pub fn fetch_error(c: Control) -> Control
 }
 
 // Data outside memory: the entry is made at the next instruction.
-#[tactic(auto, unfolding(crate::specs::Entries::entered))]
 pub fn data_error(c: Control) -> Control
     ensures { result ≡ entered Entry.DataError (onward 2 c) }
 {
     enter_error(14, go_on(2, c))
 }
 
-#[tactic(auto, unfolding(crate::specs::Entries::entered))]
 pub fn enter(e: Entry, c: Control) -> Control
     ensures { result ≡ entered e c }
 {
@@ -106,14 +100,12 @@ fn is_hit(enabled: bool, a: u32, b: u32) -> bool
     enabled && a == b
 }
 
-#[tactic(auto, unfolding(crate::specs::Entries::is_break))]
 pub fn has_break(c: Control) -> bool
     ensures { result ≡ is_break c }
 {
     is_hit(word::is_on(c.hwdbg, 2), c.bp0, c.pc) || is_hit(word::is_on(c.hwdbg, 3), c.bp1, c.pc)
 }
 
-#[tactic(auto, unfolding(crate::specs::Entries::watch_hit))]
 fn watch_hit(a: ByteAddr, c: Control) -> u32
     ensures { result ≡ watch_hit a c }
 {
@@ -123,31 +115,31 @@ fn watch_hit(a: ByteAddr, c: Control) -> u32
 }
 
 // Mostly no watchpoint is enabled, and then none is compared.
-#[tactic(auto, unfolding(crate::specs::Entries::watch_entry))]
+#[tactic(auto, unfolding(crate::specs::Entries::watch_hit), using(crate::proofs::Laws::unwatched))]
+fn hit_at(a: ByteAddr, c: Control) -> Option<u32>
+    ensures { result ≡ (if nat_lt 0 (watch_hit a c) then Some (watch_hit a c) else None) }
+{
+    if word::field(c.hwdbg, 4, 2) == 0 {
+        return None;
+    }
+    let hit = watch_hit(a, c);
+    if 0 < hit { Some(hit) } else { None }
+}
+
 pub fn watch(a: ByteAddr, c: Control) -> Entry
     ensures { result ≡ watch_entry a c }
 {
-    if word::field(c.hwdbg, 4, 2) == 0 {
-        return Entry::Nothing;
-    }
-    let hit = watch_hit(a, c);
-    if 0 < hit {
-        Entry::Debug(hit)
-    } else {
-        Entry::Nothing
-    }
+    hit_at(a, c).map_or(Entry::Nothing, Entry::Debug)
 }
 
 // The same entry made, or none. An entry that is made where it is known costs the machine's loop less than one that is matched again.
-#[tactic(auto, unfolding(crate::specs::Entries::watch_entry, crate::specs::Entries::entered))]
 pub fn enter_watch(a: ByteAddr, c: Control) -> Control
     ensures { result ≡ entered (watch_entry a c) c }
 {
-    if word::field(c.hwdbg, 4, 2) == 0 {
-        return c;
+    match hit_at(a, c) {
+        Some(hit) => enter_debug(hit, c),
+        None => c,
     }
-    let hit = watch_hit(a, c);
-    if 0 < hit { enter_debug(hit, c) } else { c }
 }
 
 fn fall_by(n: u32, c: Control) -> Control
@@ -161,18 +153,13 @@ fn fall_by(n: u32, c: Control) -> Control
 }
 
 // What a watchpoint's entry adds to its load or store.
-#[tactic(auto, unfolding(crate::specs::Entries::watch_entry, crate::specs::Cycles::entry_cost))]
 pub fn watch_cost(a: ByteAddr, c: Control) -> u8
     ensures { result ≡ entry_cost (watch_entry a c) }
 {
-    if word::field(c.hwdbg, 4, 2) == 0 {
-        return 0;
-    }
-    if 0 < watch_hit(a, c) { 4 } else { 0 }
+    if hit_at(a, c).is_some() { 4 } else { 0 }
 }
 
 // What an entry adds to its instruction's cost.
-#[tactic(auto, unfolding(crate::specs::Cycles::entry_cost))]
 pub fn entry_cost(e: Entry) -> u8
     ensures { result ≡ entry_cost e }
 {
@@ -184,7 +171,6 @@ pub fn entry_cost(e: Entry) -> u8
 }
 
 // A match on TIMER costs the compiler fewer instructions than a comparison.
-#[tactic(auto, unfolding(crate::specs::Entries::fallen))]
 fn fall(te: bool, n: u32, c: Control) -> Control
     ensures { result ≡ fallen te n c }
 {
@@ -200,7 +186,6 @@ fn fall(te: bool, n: u32, c: Control) -> Control
 }
 
 // A step of cost n goes by.
-#[tactic(auto, unfolding(crate::specs::Entries::passed))]
 pub fn pass(te: bool, n: u32, c: Control) -> Control
     ensures { result ≡ passed te n c }
 {

@@ -1,4 +1,6 @@
 // The registers that an instruction reads, and the address of its data.
+#![tactic(auto, unfolding(crate::specs::Exec::sources_of, crate::specs::Exec::data_address))]
+
 ghost use Rattle.std.specs.Prelude.{◌≡◌};
 ghost use Rattle.cpu.specs.Exec.{two, sources_of, data_address};
 
@@ -6,7 +8,6 @@ use crate::{Sources, UNREAD};
 use isa::Instr;
 use word::{ByteAddr, Width};
 
-#[tactic(auto, unfolding(crate::specs::Exec::sources_of))]
 pub fn sources_of(i: Instr) -> Sources
     ensures { result ≡ sources_of i }
 {
@@ -19,7 +20,9 @@ pub fn sources_of(i: Instr) -> Sources
         | Instr::CmpImm(_, d, _)
         | Instr::CondImm(_, d, _)
         | Instr::Imm(_, d, _) => two_of(d, UNREAD),
-        Instr::Load(_, _, _, b) | Instr::Mtsfr(_, b) | Instr::Jr(b) | Instr::Jrl(b) => two_of(UNREAD, b),
+        Instr::Load(_, _, _, b) | Instr::Mtsfr(_, b) | Instr::Jr(b) | Instr::Jrl(b) => two_of(
+            UNREAD, b,
+        ),
         Instr::Ldrpc(_, _)
         | Instr::Mfsfr(_, _)
         | Instr::Jsfr(_)
@@ -35,7 +38,6 @@ fn two_of(first: u32, second: u32) -> Sources
     Sources { first, second }
 }
 
-#[tactic(auto, unfolding(crate::specs::Exec::data_address))]
 pub fn data_address(w: Width, base: u32, n: u32) -> ByteAddr
     ensures { result ≡ data_address w base n }
 {

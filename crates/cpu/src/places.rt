@@ -1,4 +1,6 @@
 // The control part, and the ways to change one place of it.
+#![tactic(auto, unfolding(crate::specs::Control::with_pc, crate::specs::Control::with_sfr, crate::specs::Control::with_pending, crate::specs::Control::with_cycles))]
+
 ghost use Rattle.std.specs.Prelude.{◌≡◌};
 ghost use Rattle.cpu.specs.Control.{fresh_control, with_pc, with_sfr, with_psw, with_ipc, with_hwdbg, with_pending, with_timer, with_cycles, sfr_of};
 
@@ -26,49 +28,42 @@ pub fn fresh_control() -> Control
     }
 }
 
-#[tactic(auto, unfolding(crate::specs::Control::with_pc))]
 pub fn with_pc(c: Control, a: ByteAddr) -> Control
     ensures { result ≡ with_pc c a }
 {
     Control { pc: a.0, ..c }
 }
 
-#[tactic(auto, unfolding(crate::specs::Control::with_sfr))]
 pub fn with_psw(c: Control, psw: u32) -> Control
     ensures { result ≡ with_psw c psw }
 {
     Control { psw, ..c }
 }
 
-#[tactic(auto, unfolding(crate::specs::Control::with_sfr))]
 pub fn with_ra(c: Control, ra: u32) -> Control
     ensures { result ≡ with_sfr 1 c ra }
 {
     Control { ra, ..c }
 }
 
-#[tactic(auto, unfolding(crate::specs::Control::with_sfr))]
 pub fn with_ipc(c: Control, ipc: u32) -> Control
     ensures { result ≡ with_ipc c ipc }
 {
     Control { ipc, ..c }
 }
 
-#[tactic(auto, unfolding(crate::specs::Control::with_sfr))]
 pub fn with_hwdbg(c: Control, hwdbg: u32) -> Control
     ensures { result ≡ with_hwdbg c hwdbg }
 {
     Control { hwdbg, ..c }
 }
 
-#[tactic(auto, unfolding(crate::specs::Control::with_pending))]
 pub fn with_pending(c: Control, pending: bool) -> Control
     ensures { result ≡ with_pending c pending }
 {
     Control { pending, ..c }
 }
 
-#[tactic(auto, unfolding(crate::specs::Control::with_sfr, crate::specs::Control::with_pending))]
 pub fn with_timer(c: Control, timer: u32, pending: bool) -> Control
     ensures { result ≡ with_timer c timer pending }
 {
@@ -79,14 +74,12 @@ pub fn with_timer(c: Control, timer: u32, pending: bool) -> Control
     }
 }
 
-#[tactic(auto, unfolding(crate::specs::Control::with_cycles))]
 pub fn with_cycles(c: Control, cycles: u32) -> Control
     ensures { result ≡ with_cycles c cycles }
 {
     Control { cycles, ..c }
 }
 
-#[tactic(auto, unfolding(crate::specs::Control::with_sfr))]
 pub fn with_sfr(n: u32, c: Control, x: u32) -> Control
     ensures { result ≡ with_sfr n c x }
 {

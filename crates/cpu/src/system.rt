@@ -1,4 +1,6 @@
 // Special function registers, jumps and swint; each says what exec says of it.
+#![tactic(auto, unfolding(crate::specs::Exec::exec, crate::specs::Exec::makes, crate::specs::Cycles::cost_of, crate::specs::Exec::psw_written, crate::specs::Exec::leave, crate::specs::Exec::written, crate::specs::Exec::timer_written))]
+
 ghost use Rattle.std.specs.Prelude.{◌≡◌};
 ghost use Rattle.isa.specs.declared.Instr.{Instr};
 ghost use Rattle.cpu.specs.Exec.{accepted, timer_written, psw_written, written, leave, exec};
@@ -9,7 +11,6 @@ use crate::{Control, Effect, NO_REG};
 use isa::{LongOp, ShortOp};
 use word::HalfDisp;
 
-#[tactic(auto, unfolding(crate::specs::Exec::exec, crate::specs::Exec::makes, crate::specs::Cycles::cost_of))]
 pub fn mfsfr(d: u32, n: u32, c: Control) -> Effect
     ensures { result ≡ exec (Instr.Mfsfr d n) 0 0 0 c }
 {
@@ -22,7 +23,6 @@ fn is_accepted(c: Control) -> bool
     !word::is_on(c.psw, 3) || word::is_on(c.psw, 2)
 }
 
-#[tactic(auto, unfolding(crate::specs::Exec::timer_written))]
 fn write_timer(v: u32, c: Control) -> Control
     ensures { result ≡ timer_written v c }
 {
@@ -33,7 +33,6 @@ fn write_timer(v: u32, c: Control) -> Control
     }
 }
 
-#[tactic(auto, unfolding(crate::specs::Exec::psw_written))]
 fn keep_psw(p: u32, v: u32) -> u32
     ensures { result ≡ psw_written p v }
 {
@@ -41,7 +40,6 @@ fn keep_psw(p: u32, v: u32) -> u32
     word::with_field(a, 26, 6, word::field(p, 26, 6))
 }
 
-#[tactic(auto, unfolding(crate::specs::Exec::written))]
 fn write_sfr(n: u32, v: u32, c: Control) -> Control
     ensures { result ≡ written n v c }
 {
@@ -53,7 +51,6 @@ fn write_sfr(n: u32, v: u32, c: Control) -> Control
     }
 }
 
-#[tactic(auto, unfolding(crate::specs::Exec::exec, crate::specs::Exec::makes, crate::specs::Cycles::cost_of))]
 pub fn mtsfr(n: u32, y: u32, c: Control) -> Effect
     ensures { result ≡ exec (Instr.Mtsfr n 0) 0 y 0 c }
 {
@@ -66,21 +63,18 @@ pub fn mtsfr(n: u32, y: u32, c: Control) -> Effect
     }
 }
 
-#[tactic(auto, unfolding(crate::specs::Exec::exec, crate::specs::Exec::makes, crate::specs::Cycles::cost_of))]
 pub fn jr(y: u32, c: Control) -> Effect
     ensures { result ≡ exec (Instr.Jr 0) 0 y 0 c }
 {
     move_to(2, go_to(y, c))
 }
 
-#[tactic(auto, unfolding(crate::specs::Exec::exec, crate::specs::Exec::makes, crate::specs::Cycles::cost_of))]
 pub fn jrl(y: u32, c: Control) -> Effect
     ensures { result ≡ exec (Instr.Jrl 0) 0 y 0 c }
 {
     move_to(2, go_to(y, link(c)))
 }
 
-#[tactic(auto, unfolding(crate::specs::Exec::leave))]
 fn leave_by(n: u32, c: Control) -> Control
     ensures { result ≡ leave n c }
 {
@@ -92,21 +86,18 @@ fn leave_by(n: u32, c: Control) -> Control
     }
 }
 
-#[tactic(auto, unfolding(crate::specs::Exec::exec, crate::specs::Exec::makes, crate::specs::Cycles::cost_of))]
 pub fn jsfr(n: u32, c: Control) -> Effect
     ensures { result ≡ exec (Instr.Jsfr n) 0 0 0 c }
 {
     move_to(2, go_to(sfr_of(n, c), leave_by(n, c)))
 }
 
-#[tactic(auto, unfolding(crate::specs::Exec::exec, crate::specs::Exec::makes, crate::specs::Cycles::cost_of))]
 pub fn swint(n: u32, c: Control) -> Effect
     ensures { result ≡ exec (Instr.Swint n) 0 0 0 c }
 {
     move_to(2, go_on(2, c))
 }
 
-#[tactic(auto, unfolding(crate::specs::Exec::exec, crate::specs::Exec::makes, crate::specs::Cycles::cost_of))]
 pub fn short_jump(op: ShortOp, d: HalfDisp, c: Control) -> Effect
     ensures { result ≡ exec (Instr.ShortJump op d) 0 0 0 c }
 {
@@ -117,7 +108,6 @@ pub fn short_jump(op: ShortOp, d: HalfDisp, c: Control) -> Effect
     }
 }
 
-#[tactic(auto, unfolding(crate::specs::Exec::exec, crate::specs::Exec::makes, crate::specs::Cycles::cost_of))]
 pub fn long_jump(op: LongOp, d: HalfDisp, c: Control) -> Effect
     ensures { result ≡ exec (Instr.LongJump op d) 0 0 0 c }
 {

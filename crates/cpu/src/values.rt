@@ -1,4 +1,6 @@
 // ALU, shifts, compares and immediates; each says what exec says of it.
+#![tactic(auto, unfolding(crate::specs::Exec::exec, crate::specs::Exec::makes, crate::specs::Cycles::cost_of, crate::specs::Cycles::alu_cost, crate::specs::Cycles::shift_imm_cost, crate::specs::Exec::alu_of, crate::specs::Exec::carried, crate::specs::Exec::cmp_of, crate::specs::Exec::cmp_imm_of, crate::specs::Exec::cond_of, crate::specs::Exec::imm_value, crate::specs::Exec::shift_of))]
+
 ghost use Rattle.std.specs.Prelude.{◌≡◌, if◌then◌else◌};
 ghost use Rattle.word.specs.declared.Width.{Width};
 ghost use Rattle.isa.specs.declared.Instr.{Instr};
@@ -11,7 +13,6 @@ use crate::effects::{
 use crate::{Control, Effect};
 use isa::{AluOp, CmpImmOp, CmpOp, CondOp, ImmOp, ShiftOp};
 
-#[tactic(auto, unfolding(crate::specs::Exec::exec, crate::specs::Exec::makes, crate::specs::Cycles::cost_of, crate::specs::Cycles::alu_cost, crate::specs::Exec::alu_of, crate::specs::Exec::carried))]
 pub fn alu(op: AluOp, d: u32, x: u32, y: u32, c: Control) -> Effect
     ensures { result ≡ exec (Instr.Alu op d 0) x y 0 c }
 {
@@ -35,7 +36,6 @@ pub fn alu(op: AluOp, d: u32, x: u32, y: u32, c: Control) -> Effect
     }
 }
 
-#[tactic(auto, unfolding(crate::specs::Exec::exec, crate::specs::Exec::makes, crate::specs::Cycles::cost_of, crate::specs::Cycles::shift_imm_cost, crate::specs::Exec::shift_of))]
 pub fn shift_imm(op: ShiftOp, d: u32, n: u32, x: u32, c: Control) -> Effect
     ensures { result ≡ exec (Instr.ShiftImm op d n) x 0 0 c }
 {
@@ -47,7 +47,6 @@ pub fn shift_imm(op: ShiftOp, d: u32, n: u32, x: u32, c: Control) -> Effect
     }
 }
 
-#[tactic(auto, unfolding(crate::specs::Exec::exec, crate::specs::Exec::makes, crate::specs::Cycles::cost_of, crate::specs::Exec::cmp_of))]
 pub fn compare(op: CmpOp, x: u32, y: u32, c: Control) -> Effect
     ensures { result ≡ exec (Instr.Cmp op 0 0) x y 0 c }
 {
@@ -60,7 +59,6 @@ pub fn compare(op: CmpOp, x: u32, y: u32, c: Control) -> Effect
     }
 }
 
-#[tactic(auto, unfolding(crate::specs::Exec::exec, crate::specs::Exec::makes, crate::specs::Cycles::cost_of, crate::specs::Exec::cmp_imm_of))]
 pub fn compare_imm(op: CmpImmOp, n: u32, x: u32, c: Control) -> Effect
     ensures { result ≡ exec (Instr.CmpImm op 0 n) x 0 0 c }
 {
@@ -72,7 +70,6 @@ pub fn compare_imm(op: CmpImmOp, n: u32, x: u32, c: Control) -> Effect
 }
 
 // Whether TF says what the instruction wants is asked once, for the value and for its mark.
-#[tactic(auto, unfolding(crate::specs::Exec::cond_of))]
 pub fn conditional(op: CondOp, wanted: bool, d: u32, x: u32, y: u32, c: Control) -> Effect
     ensures { result ≡ costing 1 (puts_reg d (if wanted then cond_of op x y else x) c) }
 {
@@ -83,14 +80,12 @@ pub fn conditional(op: CondOp, wanted: bool, d: u32, x: u32, y: u32, c: Control)
     }
 }
 
-#[tactic(auto, unfolding(crate::specs::Exec::exec, crate::specs::Exec::makes, crate::specs::Cycles::cost_of))]
 pub fn conditional_imm(t: bool, d: u32, n: u32, x: u32, c: Control) -> Effect
     ensures { result ≡ exec (Instr.CondImm t d n) x 0 0 c }
 {
     set_if(is_wanted(t, c), d, plus(x, n), x, c)
 }
 
-#[tactic(auto, unfolding(crate::specs::Exec::exec, crate::specs::Exec::makes, crate::specs::Cycles::cost_of, crate::specs::Exec::imm_value))]
 pub fn immediate(op: ImmOp, d: u32, n: u32, x: u32, c: Control) -> Effect
     ensures { result ≡ exec (Instr.Imm op d n) x 0 0 c }
 {
@@ -102,7 +97,6 @@ pub fn immediate(op: ImmOp, d: u32, n: u32, x: u32, c: Control) -> Effect
 }
 
 // ldr, ldrh, ldrb and ldrpc, with what they load.
-#[tactic(auto, unfolding(crate::specs::Exec::exec, crate::specs::Exec::makes, crate::specs::Cycles::cost_of))]
 pub fn loaded(d: u32, v: u32, c: Control) -> Effect
     ensures { result ≡ exec (Instr.Ldrpc d 0) 0 0 v c }
 {
@@ -110,7 +104,6 @@ pub fn loaded(d: u32, v: u32, c: Control) -> Effect
 }
 
 // str, strh and strb change no register.
-#[tactic(auto, unfolding(crate::specs::Exec::exec, crate::specs::Exec::makes, crate::specs::Cycles::cost_of))]
 pub fn stored(c: Control) -> Effect
     ensures { result ≡ exec (Instr.Store Width.Byte 0 0 0) 0 0 0 c }
 {
