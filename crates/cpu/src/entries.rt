@@ -145,11 +145,7 @@ pub fn enter_watch(a: ByteAddr, c: Control) -> Control
 fn fall_by(n: u32, c: Control) -> Control
     ensures { result ≡ with_timer c (c.timer - n) (c.pending || nat_le c.timer n) }
 {
-    if c.timer <= n {
-        with_timer(c, 0, true)
-    } else {
-        with_timer(c, c.timer - n, c.pending)
-    }
+    with_timer(c, c.timer.saturating_sub(n), c.pending || c.timer <= n)
 }
 
 // What a watchpoint's entry adds to its load or store.

@@ -98,6 +98,7 @@ pub fn swint(n: u32, c: Control) -> Effect
     move_to(2, go_on(2, c))
 }
 
+// Two functions, since each promises what exec says of an instruction of its own, and only jl links.
 pub fn short_jump(op: ShortOp, d: HalfDisp, c: Control) -> Effect
     ensures { result ≡ exec (Instr.ShortJump op d) 0 0 0 c }
 {
