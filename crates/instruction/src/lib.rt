@@ -12,22 +12,23 @@ use isa::Instr;
 use marks::Taint;
 use word::{ByteAddr, Width};
 
-#[derive(Clone, Copy)]
+// The answers of a run, with document 01's numbers.
+#[derive(Clone, Copy, Debug, PartialEq, Eq)]
 pub enum Reply {
-    MemoryLength,
-    MarkLength,
-    MarkPastEnd,
-    Form,
-    TapeLength,
-    TapeByte,
-    Budget,
-    FetchMarked,
-    NoInstruction,
-    MarkedOperand,
+    MemoryLength = 1,
+    MarkLength = 2,
+    MarkPastEnd = 3,
+    Form = 4,
+    TapeLength = 5,
+    TapeByte = 6,
+    Budget = 10,
+    FetchMarked = 12,
+    NoInstruction = 13,
+    MarkedOperand = 14,
 }
 
 // Why an instruction is not done, in the order of the tests. An access outside memory is a bus error; the others stop the run.
-#[derive(Clone, Copy)]
+#[derive(Clone, Copy, Debug, PartialEq, Eq)]
 pub enum Halt {
     FetchOutside,
     FetchMarked,
@@ -45,22 +46,10 @@ pub enum Reach {
     Raises(u32),
 }
 
-// Document 01's numbers.
 pub fn number(r: Reply) -> u32
     ensures { result ≡ number_of r }
 {
-    match r {
-        Reply::MemoryLength => 1,
-        Reply::MarkLength => 2,
-        Reply::MarkPastEnd => 3,
-        Reply::Form => 4,
-        Reply::TapeLength => 5,
-        Reply::TapeByte => 6,
-        Reply::Budget => 10,
-        Reply::FetchMarked => 12,
-        Reply::NoInstruction => 13,
-        Reply::MarkedOperand => 14,
-    }
+    r as u32
 }
 
 // One instruction: its effect, its marks and the place that it reaches, or why it is not done.
