@@ -3,13 +3,15 @@
 
 ghost use Rattle.std.specs.Prelude.{◌≡◌, ◌&&◌, ℕ, ◌+◌, ◌*◌, ◌≤◌, length};
 ghost use Rattle.std.proofs.lemmas.List.Edits.{sets};
+ghost use Rattle.word.specs.Bytes.{bytes_of};
 ghost use Rattle.marks.specs.Memory.{bits};
-ghost use Rattle.abi.specs.Record.{word_at, flag_at, each, control_at, state_at, words, flags, control_part, record_in, within, shaped};
+ghost use Rattle.abi.specs.Record.{word_at, flag_at, each, control_at, state_at, laid, flags, control_part, record_in, within, shaped};
 ghost use Rattle.abi.specs.Call.{called};
 
 use cpu::Control;
 use machine::State;
 use marks::Flags;
+use std::array;
 use word::{ByteAddr, Width};
 
 // ---- a state from its record
@@ -29,25 +31,13 @@ fn flag_at(r: &[u8], at: u32) -> bool
 fn registers_at(r: &[u8]) -> [u32; 16]
     ensures { result ≡ each (word_at r.now) 4 16 0 }
 {
-    let mut regs = [0u32; 16];
-    let mut i: usize = 0;
-    while i < 16 {
-        regs[i] = word_at(r, 4 * i as u32);
-        i += 1;
-    }
-    regs
+    array::from_fn(|i| word_at(r, 4 * i as u32))
 }
 
 fn marks_at(r: &[u8]) -> [bool; 16]
     ensures { result ≡ each (flag_at r.now) 1 16 64 }
 {
-    let mut marks = [false; 16];
-    let mut i: usize = 0;
-    while i < 16 {
-        marks[i] = flag_at(r, 64 + i as u32);
-        i += 1;
-    }
-    marks
+    array::from_fn(|i| flag_at(r, 64 + i as u32))
 }
 
 fn control_at(r: &[u8]) -> Control
@@ -88,27 +78,24 @@ pub fn state_at(r: &[u8]) -> State
 
 // ---- a record from its state
 
-// Numbers one behind the other. No record is long, so the offsets fit.
-fn put_words(r: &mut [u8], at: u32, l: &[u32])
-    requires { (at + 4 * length l.now ≤ length r.old) × (length r.old ≤ 160) }
-    ensures { r.new ≡ sets r.old at (words l.now) }
+// Numbers one behind the other, each of w's size. No record is long, so the offsets fit.
+fn put(w: Width, r: &mut [u8], at: u32, l: &[u32])
+    requires { (at + bytes_of w * length l.now ≤ length r.old) × (length r.old ≤ 160) }
+    ensures { r.new ≡ sets r.old at (laid (bytes_of w) l.now) }
 {
-    let mut i: usize = 0;
-    while i < l.len() {
-        word::store(Width::Word, r, ByteAddr(at + 4 * i as u32), l[i]);
-        i += 1;
+    let size = word::bytes(w);
+    let mut to = at;
+    for x in l {
+        word::store(w, r, ByteAddr(to), *x);
+        to += size;
     }
 }
 
-fn put_flags(r: &mut [u8], at: u32, l: &[bool])
-    requires { (at + length l.now ≤ length r.old) × (length r.old ≤ 160) }
+fn put_flags<const N: usize>(r: &mut [u8], at: u32, l: &[bool; N])
+    requires { (at + N ≤ length r.old) × (length r.old ≤ 160) }
     ensures { r.new ≡ sets r.old at (flags l.now) }
 {
-    let mut i: usize = 0;
-    while i < l.len() {
-        word::store(Width::Byte, r, ByteAddr(at + i as u32), word::number(l[i]));
-        i += 1;
-    }
+    put(Width::Byte, r, at, &l.map(u32::from));
 }
 
 // A byte that is zero is a flag that is not set.
@@ -116,9 +103,10 @@ fn put_control(r: &mut [u8], f: Flags, c: Control)
     requires { length r.old ≡ 160 }
     ensures { r.new ≡ sets r.old 80 (control_part f c) }
 {
-    put_words(r, 80, &[c.pc, c.psw]);
+    put(Width::Word, r, 80, &[c.pc, c.psw]);
     put_flags(r, 88, &[f.tf, f.cy, c.pending, false]);
-    put_words(
+    put(
+        Width::Word,
         r,
         92,
         &[
@@ -132,13 +120,9 @@ fn put_state(r: &mut [u8], s: State)
     ensures { r.new ≡ record_in s r.old }
 {
     if r.len() == 160 {
-        let regs = s.regs;
-        let marks = s.marks;
-        let flags = s.flags;
-        let control = s.control;
-        put_words(r, 0, &regs);
-        put_flags(r, 64, &marks);
-        put_control(r, flags, control);
+        put(Width::Word, r, 0, &s.regs);
+        put_flags(r, 64, &s.marks);
+        put_control(r, s.flags, s.control);
     }
 }
 
@@ -148,20 +132,18 @@ fn is_within(limit: u8, at: usize, n: usize, r: &[u8]) -> bool
     requires { at + n ≤ length r.now }
     ensures { result ≡ within limit at n r.now }
 {
-    let end = at + n;
-    !word::has_above(limit, &r[at..end])
+    !word::has_above(limit, &r[at..at + n])
 }
 
 // The length, marks and flags of 0 or 1, and zero where zero stands.
 pub fn is_shaped(r: &[u8]) -> bool
     ensures { result ≡ shaped r.now }
 {
-    if r.len() == 160 {
-        let ones = word::both(is_within(1, 64, 16, r), is_within(1, 88, 3, r));
-        let gap = word::both(ones, is_within(0, 91, 1, r));
-        return word::both(gap, is_within(0, 136, 24, r));
-    }
-    false
+    r.len() == 160
+        && is_within(1, 64, 16, r)
+        && is_within(1, 88, 3, r)
+        && is_within(0, 91, 1, r)
+        && is_within(0, 136, 24, r)
 }
 
 // Reply 0 where there is no record; else the run of the state that it holds, with document 01's reply number.

@@ -1,36 +1,17 @@
-use Prim.Native.Nat.{◌+◌, ◌-◌, ◌<◌, ◌≤◌}
-use mathlib.Core.Path.{sym, ◌∙◌}
-use mathlib.Core.Bool.{false}
-use mathlib.Core.List.{map}
-use native.Mathlib.Omega.{arith}
-use lib.ListN.{length, length-map, get_or-map}
-use borrow.Author.Tests.{le-leb}
+use Rattle.std.proofs.Common.{◌≡◌, Bool, true, false, ◌∙◌, ap, refl, rules, arith}
+use Rattle.std.proofs.lemmas.List.Edits.{sets}
+use Rattle.std.specs.Int.{from_bool}
 use Rattle.word.specs.Bits.{num}
-use Rattle.word.proofs.Memory.{store_length}
-use Rattle.abi.proofs.Laws.{put_more, put_none}
+use Rattle.abi.specs.Record.{laid}
+use Rattle.abi.proofs.Laws.{map_of_calls}
 use Rattle.abi.proofs.put_flags.Goals as goal
 
-pub loop-i-preserved : goal.loop-i-preserved
-loop-i-preserved c =
-    let at = c.loop-i in
-    let args = c.args in
-    let i = at.i in
-    let l = args.l.now in
-    let n = at.invariant.1 in
-    let m = length-map l num in
-    let h : i < length l = c.loop-i-test.true in
-    let inside : args.at + i + 1 ≤ length at.r = omega arith in (
-      omega arith,
-      rw (c.store.ensures, le-leb _ _ inside) (store_length 1 at.r (args.at + i) _ ∙ n),
-      rw (c.store.ensures, le-leb _ _ inside, c.number.ensures.0, ← (get_or-map num l i false))
-          (put_more 1 at.r (map num l) i (args.at + i) (args.at + (i + 1)) (omega arith) (omega arith) ∙ at.invariant.2),
-    )
+same_number : (b : Bool) → from_bool b ≡ num b
+same_number true = refl
+same_number false = refl
 
 pub returns : goal.returns
-returns c =
-    let at = c.loop-i in
-    let args = c.args in
-    let l = map num args.l.now in
-    let m = length-map args.l.now num in
-    let h : length l ≤ at.i = omega (arith, c.loop-i-test.false) in
-    sym (put_none 1 at.r l at.i (args.at + at.i) h) ∙ at.invariant.2
+returns g c =
+    let n = c.map.ensures.items.long in
+    c.put.ensures ∙ ap (λ l. sets c.args.r.now c.args.at (laid 1 l))
+    (map_of_calls _ _ num g.row.N 0 _ _ (λ x r f e. search (rules, same_number)) c.map.ensures.items.each (omega arith) (omega arith))

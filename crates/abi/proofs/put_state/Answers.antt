@@ -8,5 +8,5 @@ returns-then-r-eq160 c =
     let n : length c.args.s.regs ≡ 16 = search rules in
     let l : length c.args.s.marks ≡ 16 = search rules in
     let e = c.if-r-eq160.true in
-    rw (c.put_control.ensures, c.put_flags.ensures, c.put_words.ensures, eq-eqb _ _ e)
+    rw (c.put_control.ensures, c.put_flags.ensures, c.put.ensures, eq-eqb _ _ e)
     (written c.args.r.now c.args.s e n l)
