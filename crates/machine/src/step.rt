@@ -41,16 +41,12 @@ pub fn halt(h: Halt, c: Control) -> Halted
 pub fn begin(t: u32, c: Control, m: &[u8], mk: &[u8]) -> Begun
     ensures { result ≡ begun_of t c m.now (bits mk.now) }
 {
-    let e = choose(t, c);
-    match e {
+    match choose(t, c) {
         Event::Enter(x) => enter(x, c),
-        Event::Instruction => {
-            let f = instruction::fetch::first_half(ByteAddr(c.pc), m, mk);
-            match f {
-                Half::Halted(h) => Begun::Halted(h),
-                Half::Bits(h) => Begun::Half((h / 256) as u8, (h % 256) as u8),
-            }
-        }
+        Event::Instruction => match instruction::fetch::first_half(ByteAddr(c.pc), m, mk) {
+            Half::Halted(h) => Begun::Halted(h),
+            Half::Bits(h) => Begun::Half((h / 256) as u8, (h % 256) as u8),
+        },
     }
 }
 
@@ -59,8 +55,7 @@ pub fn entry_of(r: Reach, c: Control) -> Entry
 {
     match r {
         Reach::Nowhere => Entry::Nothing,
-        Reach::Reads(_, a) => cpu::watch(a, c),
-        Reach::Writes(_, a) => cpu::watch(a, c),
+        Reach::Reads(_, a) | Reach::Writes(_, a) => cpu::watch(a, c),
         Reach::Raises(n) => Entry::Swint(n),
     }
 }
@@ -71,8 +66,7 @@ fn enter_by(r: Reach, c: Control) -> Control
 {
     match r {
         Reach::Nowhere => c,
-        Reach::Reads(_, a) => cpu::enter_watch(a, c),
-        Reach::Writes(_, a) => cpu::enter_watch(a, c),
+        Reach::Reads(_, a) | Reach::Writes(_, a) => cpu::enter_watch(a, c),
         Reach::Raises(n) => cpu::enter_swint(n, c),
     }
 }
@@ -82,10 +76,8 @@ fn cost_by(r: Reach, c: Control) -> u8
     ensures { result ≡ entry_cost (entry_by r c) }
 {
     match r {
-        Reach::Nowhere => 0,
-        Reach::Reads(_, a) => cpu::watch_cost(a, c),
-        Reach::Writes(_, a) => cpu::watch_cost(a, c),
-        Reach::Raises(_) => 0,
+        Reach::Reads(_, a) | Reach::Writes(_, a) => cpu::watch_cost(a, c),
+        Reach::Nowhere | Reach::Raises(_) => 0,
     }
 }
 
@@ -93,14 +85,11 @@ fn finish(c: Control, e: Effect, t: Taint, r: Reach) -> Done
     ensures { result ≡ done_of c e t r }
 {
     let made = e.control;
-    let te = word::both(word::is_on(c.psw, 4), !e.wrote);
+    let te = word::is_on(c.psw, 4) && !e.wrote;
     let cost = e.cost as u32 + cost_by(r, made) as u32;
     Done {
         control: cpu::pass(te, cost, enter_by(r, made)),
-        flags: Flags {
-            tf: t.flags.tf,
-            cy: t.flags.cy,
-        },
+        flags: t.flags,
         reg: e.reg,
         value: e.value,
         mark: t.reg,
@@ -112,13 +101,11 @@ fn write_at(r: Reach, u: u32, mu: bool, m: &mut [u8], mk: &mut [u8])
     ensures mk_after { bits mk.new ≡ marked_to r mu (bits mk.old) }
 {
     match r {
-        Reach::Nowhere => {}
-        Reach::Reads(_, _) => {}
         Reach::Writes(w, a) => {
             word::store(w, m, a, u);
             marks::memory::set_marks(w, mk, a, mu);
         }
-        Reach::Raises(_) => {}
+        Reach::Nowhere | Reach::Reads(_, _) | Reach::Raises(_) => {}
     }
 }
 
@@ -171,9 +158,8 @@ pub fn low_byte(g: Begun) -> u8
     ensures { result ≡ low_byte g }
 {
     match g {
-        Begun::Halted(_) => 0,
-        Begun::Enter(_) => 0,
         Begun::Half(_, lo) => lo,
+        Begun::Halted(_) | Begun::Enter(_) => 0,
     }
 }
 

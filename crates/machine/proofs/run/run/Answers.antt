@@ -8,12 +8,12 @@ use Rattle.machine.proofs.run.run.Goals as goal
 pub steps-requires : goal.steps-requires
 steps-requires c =
     let a = c.args in
-    omega (arith, long_tape a.b a.t.now a.s a.m.now (bits a.k.now) (sym c.judge_all-j.ensures ∙ c.in-Good.is))
+    omega (arith, long_tape a.b a.t.now a.s a.m.now (bits a.k.now) (sym c.judge_all.ensures ∙ c.in-Good.is))
 
 pub returns-in-Refused : goal.returns-in-Refused
 unfolding run_of
-returns-in-Refused c = rw (← c.judge_all-j.ensures, c.in-Refused.is) (record { value = refl; m_after = refl; k_after = refl })
+returns-in-Refused c = rw (← c.judge_all.ensures, c.in-Refused.is, c.end_at.ensures) (record { value = refl; m_after = refl; k_after = refl })
 
 pub returns-in-Good : goal.returns-in-Good
 unfolding run_of
-returns-in-Good c = rw (← c.judge_all-j.ensures, c.in-Good.is) c.steps.ensures
+returns-in-Good c = rw (← c.judge_all.ensures, c.in-Good.is) c.steps.ensures
