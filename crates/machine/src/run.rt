@@ -8,7 +8,7 @@ ghost use Rattle.machine.specs.Parts.{state_of};
 use crate::refusals::judge_all;
 use crate::registers::put;
 use crate::step::{begin, halt, low_byte, make_step};
-use crate::{Ended, Halted, Judged, Out, State};
+use crate::{Ended, State};
 use cpu::Control;
 use instruction::Reply;
 use marks::Flags;
@@ -57,18 +57,7 @@ fn steps(b: usize, t: &[u8], s: State, m: &mut [u8], k: &mut [u8]) -> Ended
             g, regs[i], marks[i], regs[j], marks[j], tf, cy, control, m, k,
         );
         match out {
-            Out::Halted(h) => {
-                let x = halt(h, control);
-                match x {
-                    Halted::Stop(reply) => {
-                        return end_at(state_from(regs, marks, tf, cy, control), n, reply);
-                    }
-                    Halted::Enter(e) => {
-                        control = e;
-                    }
-                }
-            }
-            Out::Go(d) => {
+            Ok(d) => {
                 tf = d.flags.tf;
                 cy = d.flags.cy;
                 control = d.control;
@@ -82,6 +71,12 @@ fn steps(b: usize, t: &[u8], s: State, m: &mut [u8], k: &mut [u8]) -> Ended
                     }
                 }
             }
+            Err(h) => match halt(h, control) {
+                Ok(entered) => control = entered,
+                Err(reply) => {
+                    return end_at(state_from(regs, marks, tf, cy, control), n, reply);
+                }
+            },
         }
     }
     end_at(state_from(regs, marks, tf, cy, control), b, Reply::Budget)
@@ -94,7 +89,7 @@ pub fn run(b: usize, t: &[u8], s: State, m: &mut [u8], k: &mut [u8]) -> Ended
     ensures k_after { bits k.new ≡ (run_of b t.now s m.old (bits k.old)).marks }
 {
     match judge_all(b, t, s, m, k) {
-        Judged::Refused(reply) => end_at(s, 0, reply),
-        Judged::Good => steps(b, t, s, m, k),
+        Err(reply) => end_at(s, 0, reply),
+        Ok(()) => steps(b, t, s, m, k),
     }
 }

@@ -10,43 +10,43 @@ ghost use Rattle.machine.specs.Parts.{halted_to, begun_of, act_out, act_mem, act
 ghost use Rattle.machine.specs.declared.Begun.{Begun};
 
 use crate::choice::choose;
-use crate::{Begun, Done, Event, Halted, Out};
+use crate::{Begun, Done, Event};
 use cpu::{Control, Effect, Entry};
-use instruction::{Act, Fetched, Half, Halt, Reach, Reply};
+use instruction::{Act, Halt, Reach, Reply};
 use marks::{Flags, Taint};
 use word::ByteAddr;
 
-fn enter(e: Entry, c: Control) -> Begun
-    ensures { result ≡ Begun.Enter (passed (on c.psw 4) (entry_cost e) (entered e c)) }
+fn enter(e: Entry, c: Control) -> Result<Begun, Halt>
+    ensures { result ≡ Ok (Begun.Enter (passed (on c.psw 4) (entry_cost e) (entered e c))) }
 {
     let cost = cpu::entry_cost(e) as u32;
-    Begun::Enter(cpu::pass(word::is_on(c.psw, 4), cost, cpu::enter(e, c)))
+    Ok(Begun::Enter(cpu::pass(word::is_on(c.psw, 4), cost, cpu::enter(e, c))))
 }
 
 // What comes of an instruction that is not done, from control part c on.
-pub fn halt(h: Halt, c: Control) -> Halted
+pub fn halt(h: Halt, c: Control) -> Result<Control, Reply>
     ensures { result ≡ halted_to h c }
 {
     let te = word::is_on(c.psw, 4);
     match h {
-        Halt::FetchOutside => Halted::Enter(cpu::pass(te, 4, cpu::fetch_error(c))),
-        Halt::FetchMarked => Halted::Stop(Reply::FetchMarked),
-        Halt::NoInstruction => Halted::Stop(Reply::NoInstruction),
-        Halt::MarkedOperand => Halted::Stop(Reply::MarkedOperand),
-        Halt::DataOutside => Halted::Enter(cpu::pass(te, 4, cpu::data_error(c))),
+        Halt::FetchOutside => Ok(cpu::pass(te, 4, cpu::fetch_error(c))),
+        Halt::FetchMarked => Err(Reply::FetchMarked),
+        Halt::NoInstruction => Err(Reply::NoInstruction),
+        Halt::MarkedOperand => Err(Reply::MarkedOperand),
+        Halt::DataOutside => Ok(cpu::pass(te, 4, cpu::data_error(c))),
     }
 }
 
 // All of a step that no register takes part in.
-pub fn begin(t: u32, c: Control, m: &[u8], mk: &[u8]) -> Begun
+pub fn begin(t: u32, c: Control, m: &[u8], mk: &[u8]) -> Result<Begun, Halt>
     ensures { result ≡ begun_of t c m.now (bits mk.now) }
 {
     match choose(t, c) {
         Event::Enter(x) => enter(x, c),
-        Event::Instruction => match instruction::fetch::first_half(ByteAddr(c.pc), m, mk) {
-            Half::Halted(h) => Begun::Halted(h),
-            Half::Bits(h) => Begun::Half((h / 256) as u8, (h % 256) as u8),
-        },
+        Event::Instruction => {
+            let h = instruction::fetch::first_half(ByteAddr(c.pc), m, mk)?;
+            Ok(Begun::Half((h / 256) as u8, (h % 256) as u8))
+        }
     }
 }
 
@@ -109,18 +109,14 @@ fn write_at(r: Reach, u: u32, mu: bool, m: &mut [u8], mk: &mut [u8])
     }
 }
 
-fn act_step(a: Act, u: u32, mu: bool, c: Control, m: &mut [u8], mk: &mut [u8]) -> Out
+fn act_step(a: Act, u: u32, mu: bool, c: Control, m: &mut [u8], mk: &mut [u8]) -> Result<Done, Halt>
     ensures value { result ≡ act_out a c }
     ensures m_after { m.new ≡ act_mem a (val u mu) m.old }
     ensures mk_after { bits mk.new ≡ act_marks a (val u mu) (bits mk.old) }
 {
-    match a {
-        Act::Halted(h) => Out::Halted(h),
-        Act::Does(e, t, r) => {
-            write_at(r, u, mu, m, mk);
-            Out::Go(finish(c, e, t, r))
-        }
-    }
+    let (e, t, r) = a?;
+    write_at(r, u, mu, m, mk);
+    Ok(finish(c, e, t, r))
 }
 
 // One instruction from the bytes of its first half and the registers that the second byte's digits name: an instruction that reads fewer does not look at
@@ -137,35 +133,31 @@ fn half_step(
     c: Control,
     m: &mut [u8],
     mk: &mut [u8],
-) -> Out
+) -> Result<Done, Halt>
     ensures value { result ≡ act_out (half_act hi lo (val u mu) (val v mv) (flags tf cy) c m.old (bits mk.old)) c }
     ensures m_after { m.new ≡ act_mem (half_act hi lo (val u mu) (val v mv) (flags tf cy) c m.old (bits mk.old)) (val u mu) m.old }
     ensures mk_after { bits mk.new ≡ act_marks (half_act hi lo (val u mu) (val v mv) (flags tf cy) c m.old (bits mk.old)) (val u mu) (bits mk.old) }
 {
     let kind = isa::kind_of(hi);
-    let f = instruction::fetch::rest_at(kind, hi as u16 * 256 + lo as u16, ByteAddr(c.pc), m, mk);
-    match f {
-        Fetched::Halted(h) => Out::Halted(h),
-        Fetched::Run(i) => {
-            let a = instruction::classes::act_on(i, u, mu, v, mv, tf, cy, c, m, mk);
-            act_step(a, u, mu, c, m, mk)
-        }
-    }
+    let half = hi as u16 * 256 + lo as u16;
+    let i = instruction::fetch::rest_at(kind, half, ByteAddr(c.pc), m, mk)?;
+    let a = instruction::classes::act_on(i, u, mu, v, mv, tf, cy, c, m, mk);
+    act_step(a, u, mu, c, m, mk)
 }
 
 // The byte that names the registers that are read; any would do where no instruction is made.
-pub fn low_byte(g: Begun) -> u8
+pub fn low_byte(g: Result<Begun, Halt>) -> u8
     ensures { result ≡ low_byte g }
 {
     match g {
-        Begun::Half(_, lo) => lo,
-        Begun::Halted(_) | Begun::Enter(_) => 0,
+        Ok(Begun::Half(_, lo)) => lo,
+        Ok(Begun::Enter(_)) | Err(_) => 0,
     }
 }
 
 // The rest of a step from its start on, with the registers that the low byte names. An entry writes no register.
 pub fn make_step(
-    g: Begun,
+    g: Result<Begun, Halt>,
     u: u32,
     mu: bool,
     v: u32,
@@ -175,14 +167,13 @@ pub fn make_step(
     c: Control,
     m: &mut [u8],
     mk: &mut [u8],
-) -> Out
+) -> Result<Done, Halt>
     ensures value { result ≡ begun_out g (val u mu) (val v mv) (flags tf cy) c m.old (bits mk.old) }
     ensures m_after { m.new ≡ begun_mem g (val u mu) (val v mv) (flags tf cy) c m.old (bits mk.old) }
     ensures mk_after { bits mk.new ≡ begun_marks g (val u mu) (val v mv) (flags tf cy) c m.old (bits mk.old) }
 {
-    match g {
-        Begun::Halted(h) => Out::Halted(h),
-        Begun::Enter(control) => Out::Go(Done {
+    match g? {
+        Begun::Enter(control) => Ok(Done {
             control,
             flags: Flags { tf, cy },
             reg: cpu::NO_REG,
