@@ -66,7 +66,8 @@ fn enter_by(r: Reach, c: Control) -> Control
 {
     match r {
         Reach::Nowhere => c,
-        Reach::Reads(_, a) | Reach::Writes(_, a) => cpu::enter_watch(a, c),
+        Reach::Reads(_, a) => cpu::enter_watch(a, c),
+        Reach::Writes(_, a) => cpu::enter_watch(a, c),
         Reach::Raises(n) => cpu::enter_swint(n, c),
     }
 }
@@ -76,8 +77,10 @@ fn cost_by(r: Reach, c: Control) -> u8
     ensures { result ≡ entry_cost (entry_by r c) }
 {
     match r {
-        Reach::Reads(_, a) | Reach::Writes(_, a) => cpu::watch_cost(a, c),
-        Reach::Nowhere | Reach::Raises(_) => 0,
+        Reach::Nowhere => 0,
+        Reach::Reads(_, a) => cpu::watch_cost(a, c),
+        Reach::Writes(_, a) => cpu::watch_cost(a, c),
+        Reach::Raises(_) => 0,
     }
 }
 
@@ -89,7 +92,10 @@ fn finish(c: Control, e: Effect, t: Taint, r: Reach) -> Done
     let cost = e.cost as u32 + cost_by(r, made) as u32;
     Done {
         control: cpu::pass(te, cost, enter_by(r, made)),
-        flags: t.flags,
+        flags: Flags {
+            tf: t.flags.tf,
+            cy: t.flags.cy,
+        },
         reg: e.reg,
         value: e.value,
         mark: t.reg,
@@ -101,11 +107,13 @@ fn write_at(r: Reach, u: u32, mu: bool, m: &mut [u8], mk: &mut [u8])
     ensures mk_after { bits mk.new ≡ marked_to r mu (bits mk.old) }
 {
     match r {
+        Reach::Nowhere => {}
+        Reach::Reads(_, _) => {}
         Reach::Writes(w, a) => {
             word::store(w, m, a, u);
             marks::memory::set_marks(w, mk, a, mu);
         }
-        Reach::Nowhere | Reach::Reads(_, _) | Reach::Raises(_) => {}
+        Reach::Raises(_) => {}
     }
 }
 
