@@ -1,7 +1,7 @@
 -- Laws of numbers laid out as bytes one behind the other, of writing them and of reading them back, once over the width.
 -- Assumes nothing.
-use Prim.Native.Nat.{ℕ, zero, suc, ◌+◌, ◌*◌, ◌/◌, ◌%◌, ◌^◌, ◌<◌, ◌≤◌}
-use mathlib.Core.Path.{◌≡◌, refl, sym, subst, ap, ap₂, ◌∙◌}
+use Prim.Native.Nat.{ℕ, zero, suc, ◌+◌, ◌*◌, ◌-◌, ◌/◌, ◌%◌, ◌^◌, ◌<◌, ◌≤◌}
+use mathlib.Core.Path.{◌≡◌, refl, sym, ap, ap₂, ◌∙◌}
 use mathlib.Core.Bool.{Bool, true, false, ◌||◌}
 use mathlib.Core.List.{List, [], ◌∷◌, ◌++◌, map, append-nil, append_assoc}
 use native.Mathlib.Nat.{add-zero, zero-add, add_assoc, mul-zero, mul-suc, mod-one, mod-eq_of_lt}
@@ -11,11 +11,8 @@ use lib.Arith.{digits_div, digits_mod}
 use lib.Pow.{mod-pow-add}
 use lib.Dec.{ltb}
 use lib.ListN.{length, get_or, set, take, drop, length-append, length-drop, take-append-drop, drop_of_length-le}
-use lib.Seq.{sets, sets-eq, set_comm, get_or_at, drop_at, get_or-drop, take-suc, take-add, drop-cons, drop-drop}
+use lib.Seq.{sets, sets-eq, set_comm, get_or_at, drop_at, get_or-drop, take-suc, take-add, drop-cons, drop-drop, take_all, take-suc-set}
 use borrow.Author.Tests.{ltb-false}
-use denote.Param.Members.{Mut}
-use Rattle.std.specs.Array.{IsFromFnResultFrom, MapsFrom}
-use Rattle.std.specs.Iterator.{ActsAs}
 use Rattle.word.specs.Bits.{num}
 use Rattle.word.specs.Bytes.{load, store}
 use Rattle.word.specs.Bytes.{any_above}
@@ -70,15 +67,15 @@ store_sets (suc n) m a v =
     ∙ sym (sets_append m a l (v % 256 ∷ []) ∙ ap (λ (k : ℕ). set (sets m a l) (a + k) (v % 256)) h)
 
 -- one more number written, and none left
-pub put_more : (k : ℕ) (m l : List ℕ) (i a b : ℕ) → i < length l → b ≡ a + k
-    → sets (store k m a (get_or l i 0)) b (laid k (drop (i + 1) l)) ≡ sets m a (laid k (drop i l))
+pub put_more : (k : ℕ) (m l : List ℕ) (i a b d : ℕ) → i < length l → b ≡ a + k
+    → sets (store k m a (get_or l i d)) b (laid k (drop (i + 1) l)) ≡ sets m a (laid k (drop i l))
 unfolding laid
-put_more k m l i a b h e =
-    let v : ℕ = get_or l i 0 in
+put_more k m l i a b d h e =
+    let v : ℕ = get_or l i d in
     let y : List ℕ = laid k (drop (suc i) l) in
     ap₂ (λ (j : ℕ) (r : List ℕ). sets r b (laid k (drop j l))) (add-one i) (store_sets k m a v)
     ∙ ap (λ (j : ℕ). sets (sets m a (bytes k v)) j y) (e ∙ ap (λ (n : ℕ). a + n) (sym (length_bytes k v)))
-    ∙ sym (ap (λ (r : List ℕ). sets m a (laid k r)) (drop-cons l i 0 h) ∙ sets_append m a (bytes k v) y)
+    ∙ sym (ap (λ (r : List ℕ). sets m a (laid k r)) (drop-cons l i d h) ∙ sets_append m a (bytes k v) y)
 
 pub put_none : (k : ℕ) (m l : List ℕ) (i a : ℕ) → length l ≤ i → sets m a (laid k (drop i l)) ≡ m
 unfolding laid
@@ -146,32 +143,23 @@ laid_each k (suc n) r a b h =
     ∙ ap (λ (l : List ℕ). take k (drop a r) ++ take (k * n) l) (sym (drop-drop k a r))
     ∙ sym (ap (λ (x : ℕ). take x (drop a r)) f ∙ take-add k (k * n) (drop a r))
 
--- ---- what calls at each index in turn gave, k bytes apart
+-- ---- filling an array of n by reading
 
-pub each_of_calls : {F A : Type 0} (g : Mut F (ℕ × Unit {0}) A) (f : F) (w : ℕ → A) (k b n i a : ℕ) (ys : List A)
-    → ActsAs g f (λ x. w (b + k * x)) → IsFromFnResultFrom g f ys i n → length ys ≡ i + n → a ≡ b + k * i → drop i ys ≡ each w k n a
+-- one more read, and none left
+pub fill_more : {A : Type 0} (f : ℕ → A) (k n : ℕ) (l : List A) (i a b : ℕ) → i < n → i < length l → b ≡ a + k
+    → take (i + 1) (set l i (f a)) ++ each f k (n - (i + 1)) b ≡ take i l ++ each f k (n - i) a
 unfolding each
-each_of_calls g f w k b zero i a ys h e l q = drop_of_length-le ys (omega arith)
-each_of_calls {F} {A} g f w k b (suc n) i a ys h e l q =
-    let y : A = e.1 in
-    let made = h i y e.0 e.3 in
-    let at : drop i ys ≡ get_or ys i y ∷ drop (suc i) ys = drop-cons ys i y (omega arith) in
-    let m = mul-suc k i in
-    let rest : drop (suc i) ys ≡ each w k n (a + k) = rw (← (add-one i)) (each_of_calls g f w k b n (i + 1) (a + k) ys h (subst (λ z. IsFromFnResultFrom g z ys (i + 1) n) made.0 e.4) (omega arith) (omega arith)) in
-    at ∙ ap₂ (λ (v : A) (r : List A). v ∷ r) (e.2.0 ∙ made.1 ∙ ap w (sym q)) rest
+fill_more {A} f k n l i a b g h e =
+    let q : n - i ≡ suc (n - (i + 1)) = omega arith in
+    ap₂ (λ (x : List A) (j : ℕ). x ++ each f k (n - (i + 1)) j) (ap (λ (j : ℕ). take j (set l i (f a))) (add-one i) ∙ take-suc-set l i (f a) h) e
+    ∙ append_assoc (take i l) (f a ∷ []) (each f k (n - (i + 1)) (a + k))
+    ∙ sym (ap (λ (j : ℕ). take i l ++ each f k j a) q)
 
-pub map_of_calls : {F A B : Type 0} (g : Mut F (A × Unit {0}) B) (f : F) (w : A → B) (n i : ℕ) (xs : List A) (ys : List B)
-    → ActsAs g f w → MapsFrom g f xs ys i n → length xs ≡ i + n → length ys ≡ i + n → drop i ys ≡ map w (drop i xs)
-map_of_calls g f w zero i xs ys h e l m =
-    drop_of_length-le ys (omega arith) ∙ sym (ap (map w) (drop_of_length-le xs (omega arith)))
-map_of_calls {F} {A} {B} g f w (suc n) i xs ys h e l m =
-    let x : A = e.1 in
-    let y : B = e.2 in
-    let made = h x y e.0 e.5 in
-    let from : drop i xs ≡ get_or xs i x ∷ drop (suc i) xs = drop-cons xs i x (omega arith) in
-    let to : drop i ys ≡ get_or ys i y ∷ drop (suc i) ys = drop-cons ys i y (omega arith) in
-    let rest : drop (suc i) ys ≡ map w (drop (suc i) xs) = rw (← (add-one i)) (map_of_calls g f w n (i + 1) xs ys h (subst (λ z. MapsFrom g z xs ys (i + 1) n) made.0 e.6) (omega arith) (omega arith)) in
-    to ∙ ap₂ (λ (v : B) (r : List B). v ∷ r) (e.4.0 ∙ made.1 ∙ sym (ap w e.3.0)) rest ∙ sym (ap (map w) from)
+pub fill_none : {A : Type 0} (f : ℕ → A) (k n : ℕ) (l : List A) (i a : ℕ) → n ≤ i → length l ≤ i → take i l ++ each f k (n - i) a ≡ l
+unfolding each
+fill_none {A} f k n l i a g h =
+    let q : n - i ≡ 0 = omega arith in
+    ap₂ (λ (x : List A) (j : ℕ). x ++ each f k j a) (take_all i l h) q ∙ append-nil l
 
 -- ---- flags and zeros
 

@@ -16,11 +16,11 @@ use instruction::{Act, Halt, Reach, Reply};
 use marks::{Flags, Taint};
 use word::ByteAddr;
 
-fn enter(e: Entry, c: Control) -> Result<Begun, Halt>
-    ensures { result ≡ Ok (Begun.Enter (passed (on c.psw 4) (entry_cost e) (entered e c))) }
+fn enter(e: Entry, c: Control) -> Begun
+    ensures { result ≡ Begun.Enter (passed (on c.psw 4) (entry_cost e) (entered e c)) }
 {
     let cost = cpu::entry_cost(e) as u32;
-    Ok(Begun::Enter(cpu::pass(word::is_on(c.psw, 4), cost, cpu::enter(e, c))))
+    Begun::Enter(cpu::pass(word::is_on(c.psw, 4), cost, cpu::enter(e, c)))
 }
 
 // What comes of an instruction that is not done, from control part c on.
@@ -38,15 +38,15 @@ pub fn halt(h: Halt, c: Control) -> Result<Control, Reply>
 }
 
 // All of a step that no register takes part in.
-pub fn begin(t: u32, c: Control, m: &[u8], mk: &[u8]) -> Result<Begun, Halt>
+pub fn begin(t: u32, c: Control, m: &[u8], mk: &[u8]) -> Begun
     ensures { result ≡ begun_of t c m.now (bits mk.now) }
 {
     match choose(t, c) {
         Event::Enter(x) => enter(x, c),
-        Event::Instruction => {
-            let h = instruction::fetch::first_half(ByteAddr(c.pc), m, mk)?;
-            Ok(Begun::Half((h / 256) as u8, (h % 256) as u8))
-        }
+        Event::Instruction => match instruction::fetch::first_half(ByteAddr(c.pc), m, mk) {
+            Err(h) => Begun::Halted(h),
+            Ok(h) => Begun::Half((h / 256) as u8, (h % 256) as u8),
+        },
     }
 }
 
@@ -122,9 +122,13 @@ fn act_step(a: Act, u: u32, mu: bool, c: Control, m: &mut [u8], mk: &mut [u8]) -
     ensures m_after { m.new ≡ act_mem a (val u mu) m.old }
     ensures mk_after { bits mk.new ≡ act_marks a (val u mu) (bits mk.old) }
 {
-    let (e, t, r) = a?;
-    write_at(r, u, mu, m, mk);
-    Ok(finish(c, e, t, r))
+    match a {
+        Err(h) => Err(h),
+        Ok((e, t, r)) => {
+            write_at(r, u, mu, m, mk);
+            Ok(finish(c, e, t, r))
+        }
+    }
 }
 
 // One instruction from the bytes of its first half and the registers that the second byte's digits name: an instruction that reads fewer does not look at
@@ -148,24 +152,29 @@ fn half_step(
 {
     let kind = isa::kind_of(hi);
     let half = hi as u16 * 256 + lo as u16;
-    let i = instruction::fetch::rest_at(kind, half, ByteAddr(c.pc), m, mk)?;
-    let a = instruction::classes::act_on(i, u, mu, v, mv, tf, cy, c, m, mk);
-    act_step(a, u, mu, c, m, mk)
+    match instruction::fetch::rest_at(kind, half, ByteAddr(c.pc), m, mk) {
+        Err(h) => Err(h),
+        Ok(i) => {
+            let a = instruction::classes::act_on(i, u, mu, v, mv, tf, cy, c, m, mk);
+            act_step(a, u, mu, c, m, mk)
+        }
+    }
 }
 
 // The byte that names the registers that are read; any would do where no instruction is made.
-pub fn low_byte(g: Result<Begun, Halt>) -> u8
+pub fn low_byte(g: Begun) -> u8
     ensures { result ≡ low_byte g }
 {
     match g {
-        Ok(Begun::Half(_, lo)) => lo,
-        Ok(Begun::Enter(_)) | Err(_) => 0,
+        Begun::Halted(_) => 0,
+        Begun::Enter(_) => 0,
+        Begun::Half(_, lo) => lo,
     }
 }
 
 // The rest of a step from its start on, with the registers that the low byte names. An entry writes no register.
 pub fn make_step(
-    g: Result<Begun, Halt>,
+    g: Begun,
     u: u32,
     mu: bool,
     v: u32,
@@ -180,7 +189,8 @@ pub fn make_step(
     ensures m_after { m.new ≡ begun_mem g (val u mu) (val v mv) (flags tf cy) c m.old (bits mk.old) }
     ensures mk_after { bits mk.new ≡ begun_marks g (val u mu) (val v mv) (flags tf cy) c m.old (bits mk.old) }
 {
-    match g? {
+    match g {
+        Begun::Halted(h) => Err(h),
         Begun::Enter(control) => Ok(Done {
             control,
             flags: Flags { tf, cy },
