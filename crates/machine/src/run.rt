@@ -57,6 +57,12 @@ fn steps(b: usize, t: &[u8], s: State, m: &mut [u8], k: &mut [u8]) -> Ended
             g, regs[i], marks[i], regs[j], marks[j], tf, cy, control, m, k,
         );
         match out {
+            Err(h) => match halt(h, control) {
+                Err(reply) => {
+                    return end_at(state_from(regs, marks, tf, cy, control), n, reply);
+                }
+                Ok(entered) => control = entered,
+            },
             Ok(d) => {
                 tf = d.flags.tf;
                 cy = d.flags.cy;
@@ -71,12 +77,6 @@ fn steps(b: usize, t: &[u8], s: State, m: &mut [u8], k: &mut [u8]) -> Ended
                     }
                 }
             }
-            Err(h) => match halt(h, control) {
-                Ok(entered) => control = entered,
-                Err(reply) => {
-                    return end_at(state_from(regs, marks, tf, cy, control), n, reply);
-                }
-            },
         }
     }
     end_at(state_from(regs, marks, tf, cy, control), b, Reply::Budget)
