@@ -13,7 +13,7 @@ use Rattle.machine.specs.Run.{judge, run_of}
 use Rattle.machine.specs.declared.State.{State}
 use Rattle.instruction.specs.declared.Reply.{Reply}
 use Rattle.laws.proofs.Theorems.{refusal_changes_nothing}
-use Rattle.abi.specs.Record.{each, state_at, flags, zeros, later_words, control_part, record_of, shaped, InRange, Bytes}
+use Rattle.abi.specs.Record.{each, state_at, zeros, later_words, control_part, record_of, shaped, InRange, Bytes}
 use Rattle.abi.specs.Call.{not_record, called}
 use Rattle.abi.proofs.Sixteen.{sixteen_at, run_sixteen}
 use Rattle.abi.proofs.Parts.{build, read_words, read_flags, in_parts, length_record, words_from, flags_from, words_part, flags_part, zeros_part, joined, in_shape, of_shape, flags_within, zeros_within, two, three, from136, from92, from88, from80, from64, rests}

@@ -93,10 +93,10 @@ module _ (s : State) (m : List ℕ) (k : Marks) where
       go (Ok b) = served_by s m k (kind_of (h / 256)) h b
 
   -- what a step is, by its start
-  abbrev StepBy : Result Begun Halt → Stepped → Type 0
-  StepBy (Err h) x = x ≡ halt_step h None s.flags s.control m k
-  StepBy (Ok (Begun.Enter c)) x = (out_in x ≡ goes (record { control = c; flags = s.flags; reg = no_reg; value = 0; mark = false })) × (mem_in m x ≡ m) × (marks_in k x ≡ k)
-  StepBy (Ok (Begun.Half hi lo)) x = x ≡ half_step hi lo (value_at s (lo / 16)) (value_at s (lo % 16)) s.flags s.control m k
+  abbrev StepBy : Begun → Stepped → Type 0
+  StepBy (Begun.Halted h) x = x ≡ halt_step h None s.flags s.control m k
+  StepBy (Begun.Enter c) x = (out_in x ≡ goes (record { control = c; flags = s.flags; reg = no_reg; value = 0; mark = false })) × (mem_in m x ≡ m) × (marks_in k x ≡ k)
+  StepBy (Begun.Half hi lo) x = x ≡ half_step hi lo (value_at s (lo / 16)) (value_at s (lo % 16)) s.flags s.control m k
 
   pub step_by_parts : (t : ℕ) → StepBy (begun_of t s.control m k) (step_of t s m k)
   unfolding step_of begun_of half_step half_act entry_done
@@ -181,52 +181,52 @@ act_goes (Err j) a x f c m k d e = let z : ◌≡◌ {A = ℕ} 0 1 = cc in absur
 act_goes (Ok (u, t, r)) a x f c m k d e = let q : done_of c u t r ≡ d = cc in (ap goes q, refl, refl)
 
 -- the same of a state in its parts, as the loop has them, by the step's start g and the byte of it that names registers
-module _ (b n : ℕ) (t : List ℕ) (regs : List ℕ) (marks : List Bool) (f : Flags) (c : Control) (m : List ℕ) (k : Marks) (l : n < b) (g : Result Begun Halt)
+module _ (b n : ℕ) (t : List ℕ) (regs : List ℕ) (marks : List Bool) (f : Flags) (c : Control) (m : List ℕ) (k : Marks) (l : n < b) (g : Begun)
     (o : g ≡ begun_of (get_or t n 0) c m k) (lo : ℕ) (w : lo ≡ low_byte g) where
   abbrev here : State
   here = state_of regs marks f c
 
-  abbrev out_from : Result Begun Halt → Result Done Halt
+  abbrev out_from : Begun → Result Done Halt
   out_from x = begun_out x (value_at here (lo / 16)) (value_at here (lo % 16)) f c m k
 
-  abbrev mem_from : Result Begun Halt → List ℕ
+  abbrev mem_from : Begun → List ℕ
   mem_from x = begun_mem x (value_at here (lo / 16)) (value_at here (lo % 16)) f c m k
 
-  abbrev marks_from : Result Begun Halt → Marks
+  abbrev marks_from : Begun → Marks
   marks_from x = begun_marks x (value_at here (lo / 16)) (value_at here (lo % 16)) f c m k
 
-  begun : (x : Result Begun Halt) → g ≡ x → StepBy here m k x (step_of (get_or t n 0) here m k)
+  begun : (x : Begun) → g ≡ x → StepBy here m k x (step_of (get_or t n 0) here m k)
   begun x e = rw (sym o ∙ e) at (step_by_parts here m k (get_or t n 0))
 
   -- the data address that a step shows where its instruction is not done
-  abbrev shown : Result Begun Halt → Option ByteAddr
-  shown (Err h) = None
-  shown (Ok (Begun.Enter e)) = None
-  shown (Ok (Begun.Half hi j)) = fetched_data (half_fetched hi j c m k) (value_at here (j % 16)) c
+  abbrev shown : Begun → Option ByteAddr
+  shown (Begun.Halted h) = None
+  shown (Begun.Enter e) = None
+  shown (Begun.Half hi j) = fetched_data (half_fetched hi j c m k) (value_at here (j % 16)) c
 
-  halts : (x : Result Begun Halt) → g ≡ x → (q : Halt) → Err q ≡ out_from x
+  halts : (x : Begun) → g ≡ x → (q : Halt) → Err q ≡ out_from x
       → (step_of (get_or t n 0) here m k ≡ halt_step q (shown x) f c m k) × (mem_from x ≡ m) × (marks_from x ≡ k)
   unfolding half_step
-  halts (Err h) e q u = let p : h ≡ q = cc in (begun (Err h) e ∙ ap (λ (i : Halt). halt_step i None f c m k) p, refl, refl)
-  halts (Ok (Begun.Enter a)) e q u = let z : ◌≡◌ {A = ℕ} 0 1 = cc in absurd (omega arith)
-  halts (Ok (Begun.Half hi j)) e q u =
+  halts (Begun.Halted h) e q u = let p : h ≡ q = cc in (begun (Begun.Halted h) e ∙ ap (λ (i : Halt). halt_step i None f c m k) p, refl, refl)
+  halts (Begun.Enter a) e q u = let z : ◌≡◌ {A = ℕ} 0 1 = cc in absurd (omega arith)
+  halts (Begun.Half hi j) e q u =
       let s : lo ≡ j = w ∙ ap low_byte e in
       let v = rw s at u in
-      let z = act_halts (half_act hi j (value_at here (j / 16)) (value_at here (j % 16)) f c m k) (shown (Ok (Begun.Half hi j))) (value_at here (j / 16)) f c m k q v in
-      rw s (begun (Ok (Begun.Half hi j)) e ∙ z.0, z.1, z.2)
+      let z = act_halts (half_act hi j (value_at here (j / 16)) (value_at here (j % 16)) f c m k) (shown (Begun.Half hi j)) (value_at here (j / 16)) f c m k q v in
+      rw s (begun (Begun.Half hi j) e ∙ z.0, z.1, z.2)
 
-  goes_on : (x : Result Begun Halt) → g ≡ x → (d : Done) → Ok d ≡ out_from x
+  goes_on : (x : Begun) → g ≡ x → (d : Done) → Ok d ≡ out_from x
       → (out_in (step_of (get_or t n 0) here m k) ≡ goes d) × (mem_in m (step_of (get_or t n 0) here m k) ≡ mem_from x) × (marks_in k (step_of (get_or t n 0) here m k) ≡ marks_from x)
   unfolding half_step
-  goes_on (Err h) e d u = let z : ◌≡◌ {A = ℕ} 0 1 = cc in absurd (omega arith)
-  goes_on (Ok (Begun.Enter a)) e d u =
+  goes_on (Begun.Halted h) e d u = let z : ◌≡◌ {A = ℕ} 0 1 = cc in absurd (omega arith)
+  goes_on (Begun.Enter a) e d u =
       let p : record { control = a; flags = f; reg = no_reg; value = 0; mark = false } ≡ d = cc in
-      let z = begun (Ok (Begun.Enter a)) e in
+      let z = begun (Begun.Enter a) e in
       (z.0 ∙ ap goes p, z.1, z.2)
-  goes_on (Ok (Begun.Half hi j)) e d u =
+  goes_on (Begun.Half hi j) e d u =
       let s : lo ≡ j = w ∙ ap low_byte e in
       let v = rw s at u in
-      rw (s, begun (Ok (Begun.Half hi j)) e) (act_goes (half_act hi j (value_at here (j / 16)) (value_at here (j % 16)) f c m k) (shown (Ok (Begun.Half hi j))) (value_at here (j / 16)) f c m k d v)
+      rw (s, begun (Begun.Half hi j) e) (act_goes (half_act hi j (value_at here (j / 16)) (value_at here (j % 16)) f c m k) (shown (Begun.Half hi j)) (value_at here (j / 16)) f c m k d v)
 
   pub out_stops : (q : Halt) → Err q ≡ out_from g → (r : Reply) → Err r ≡ halted_to q c
       → (steps_of (b - n) n t here m k ≡ final r n here m k) × (mem_from g ≡ m) × (marks_from g ≡ k)

@@ -61,15 +61,15 @@ halted_to Halt.DataOutside c = enters Entry.DataError c (onward 2 c)
 
 -- ---- a step in two parts: all that no register takes part in, and the instruction by its first half
 
-abbrev pub begun_half : Result ℕ Halt → Result Begun Halt
-begun_half (Err h) = Err h
-begun_half (Ok h) = Ok (Begun.Half (h / 256) (h % 256))
+abbrev pub begun_half : Result ℕ Halt → Begun
+begun_half (Err h) = Begun.Halted h
+begun_half (Ok h) = Begun.Half (h / 256) (h % 256)
 
-abbrev pub begun_by : Event → Control → List ℕ → Marks → Result Begun Halt
-begun_by (Event.Enter e) c m k = Ok (Begun.Enter (passed (on c.psw 4) (entry_cost e) (entered e c)))
+abbrev pub begun_by : Event → Control → List ℕ → Marks → Begun
+begun_by (Event.Enter e) c m k = Begun.Enter (passed (on c.psw 4) (entry_cost e) (entered e c))
 begun_by Event.Instruction c m k = begun_half (first_half (pc_of c) m k)
 
-unfoldable pub begun_of : ℕ → Control → List ℕ → Marks → Result Begun Halt
+unfoldable pub begun_of : ℕ → Control → List ℕ → Marks → Begun
 begun_of t c m k = begun_by (chosen t c) c m k
 
 -- what an instruction answers, and what it makes of memory and marks; x is what it may store
@@ -105,22 +105,22 @@ unfoldable pub half_step : ℕ → ℕ → Val → Val → Flags → Control →
 half_step hi lo x y f c m k = act_step (half_act hi lo x y f c m k) (fetched_data (half_fetched hi lo c m k) y c) x f c m k
 
 -- the rest of a step from its start on: the byte that names the registers x and y, what it answers, and what it makes of memory and marks
-abbrev pub low_byte : Result Begun Halt → ℕ
-low_byte (Err h) = 0
-low_byte (Ok (Begun.Enter e)) = 0
-low_byte (Ok (Begun.Half hi lo)) = lo
+abbrev pub low_byte : Begun → ℕ
+low_byte (Begun.Halted h) = 0
+low_byte (Begun.Enter e) = 0
+low_byte (Begun.Half hi lo) = lo
 
-abbrev pub begun_out : Result Begun Halt → Val → Val → Flags → Control → List ℕ → Marks → Result Done Halt
-begun_out (Err h) x y f c m k = Err h
-begun_out (Ok (Begun.Enter e)) x y f c m k = Ok (record { control = e; flags = f; reg = no_reg; value = 0; mark = false })
-begun_out (Ok (Begun.Half hi lo)) x y f c m k = act_out (half_act hi lo x y f c m k) c
+abbrev pub begun_out : Begun → Val → Val → Flags → Control → List ℕ → Marks → Result Done Halt
+begun_out (Begun.Halted h) x y f c m k = Err h
+begun_out (Begun.Enter e) x y f c m k = Ok (record { control = e; flags = f; reg = no_reg; value = 0; mark = false })
+begun_out (Begun.Half hi lo) x y f c m k = act_out (half_act hi lo x y f c m k) c
 
-abbrev pub begun_mem : Result Begun Halt → Val → Val → Flags → Control → List ℕ → Marks → List ℕ
-begun_mem (Err h) x y f c m k = m
-begun_mem (Ok (Begun.Enter e)) x y f c m k = m
-begun_mem (Ok (Begun.Half hi lo)) x y f c m k = act_mem (half_act hi lo x y f c m k) x m
+abbrev pub begun_mem : Begun → Val → Val → Flags → Control → List ℕ → Marks → List ℕ
+begun_mem (Begun.Halted h) x y f c m k = m
+begun_mem (Begun.Enter e) x y f c m k = m
+begun_mem (Begun.Half hi lo) x y f c m k = act_mem (half_act hi lo x y f c m k) x m
 
-abbrev pub begun_marks : Result Begun Halt → Val → Val → Flags → Control → List ℕ → Marks → Marks
-begun_marks (Err h) x y f c m k = k
-begun_marks (Ok (Begun.Enter e)) x y f c m k = k
-begun_marks (Ok (Begun.Half hi lo)) x y f c m k = act_marks (half_act hi lo x y f c m k) x k
+abbrev pub begun_marks : Begun → Val → Val → Flags → Control → List ℕ → Marks → Marks
+begun_marks (Begun.Halted h) x y f c m k = k
+begun_marks (Begun.Enter e) x y f c m k = k
+begun_marks (Begun.Half hi lo) x y f c m k = act_marks (half_act hi lo x y f c m k) x k

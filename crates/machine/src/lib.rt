@@ -35,6 +35,7 @@ pub enum Event {
 // The start of a step: its fetch is not done, it is an entry with the control part after it, or it is the instruction whose first half has these bytes.
 #[derive(Clone, Copy)]
 pub enum Begun {
+    Halted(Halt),
     Enter(Control),
     Half(u8, u8),
 }

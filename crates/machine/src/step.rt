@@ -16,11 +16,11 @@ use instruction::{Act, Halt, Reach, Reply};
 use marks::{Flags, Taint};
 use word::ByteAddr;
 
-fn enter(e: Entry, c: Control) -> Result<Begun, Halt>
-    ensures { result ≡ Ok (Begun.Enter (passed (on c.psw 4) (entry_cost e) (entered e c))) }
+fn enter(e: Entry, c: Control) -> Begun
+    ensures { result ≡ Begun.Enter (passed (on c.psw 4) (entry_cost e) (entered e c)) }
 {
     let cost = cpu::entry_cost(e) as u32;
-    Ok(Begun::Enter(cpu::pass(word::is_on(c.psw, 4), cost, cpu::enter(e, c))))
+    Begun::Enter(cpu::pass(word::is_on(c.psw, 4), cost, cpu::enter(e, c)))
 }
 
 // What comes of an instruction that is not done, from control part c on.
@@ -38,19 +38,15 @@ pub fn halt(h: Halt, c: Control) -> Result<Control, Reply>
 }
 
 // All of a step that no register takes part in.
-pub fn begin(t: u32, c: Control, m: &[u8], mk: &[u8]) -> Result<Begun, Halt>
+pub fn begin(t: u32, c: Control, m: &[u8], mk: &[u8]) -> Begun
     ensures { result ≡ begun_of t c m.now (bits mk.now) }
 {
-    let e = choose(t, c);
-    match e {
+    match choose(t, c) {
         Event::Enter(x) => enter(x, c),
-        Event::Instruction => {
-            let f = instruction::fetch::first_half(ByteAddr(c.pc), m, mk);
-            match f {
-                Err(h) => Err(h),
-                Ok(h) => Ok(Begun::Half((h / 256) as u8, (h % 256) as u8)),
-            }
-        }
+        Event::Instruction => match instruction::fetch::first_half(ByteAddr(c.pc), m, mk) {
+            Err(h) => Begun::Halted(h),
+            Ok(h) => Begun::Half((h / 256) as u8, (h % 256) as u8),
+        },
     }
 }
 
@@ -59,8 +55,7 @@ pub fn entry_of(r: Reach, c: Control) -> Entry
 {
     match r {
         Reach::Nowhere => Entry::Nothing,
-        Reach::Reads(_, a) => cpu::watch(a, c),
-        Reach::Writes(_, a) => cpu::watch(a, c),
+        Reach::Reads(_, a) | Reach::Writes(_, a) => cpu::watch(a, c),
         Reach::Raises(n) => Entry::Swint(n),
     }
 }
@@ -93,7 +88,7 @@ fn finish(c: Control, e: Effect, t: Taint, r: Reach) -> Done
     ensures { result ≡ done_of c e t r }
 {
     let made = e.control;
-    let te = word::both(word::is_on(c.psw, 4), !e.wrote);
+    let te = word::is_on(c.psw, 4) && !e.wrote;
     let cost = e.cost as u32 + cost_by(r, made) as u32;
     Done {
         control: cpu::pass(te, cost, enter_by(r, made)),
@@ -156,8 +151,8 @@ fn half_step(
     ensures mk_after { bits mk.new ≡ act_marks (half_act hi lo (val u mu) (val v mv) (flags tf cy) c m.old (bits mk.old)) (val u mu) (bits mk.old) }
 {
     let kind = isa::kind_of(hi);
-    let f = instruction::fetch::rest_at(kind, hi as u16 * 256 + lo as u16, ByteAddr(c.pc), m, mk);
-    match f {
+    let half = hi as u16 * 256 + lo as u16;
+    match instruction::fetch::rest_at(kind, half, ByteAddr(c.pc), m, mk) {
         Err(h) => Err(h),
         Ok(i) => {
             let a = instruction::classes::act_on(i, u, mu, v, mv, tf, cy, c, m, mk);
@@ -167,19 +162,19 @@ fn half_step(
 }
 
 // The byte that names the registers that are read; any would do where no instruction is made.
-pub fn low_byte(g: Result<Begun, Halt>) -> u8
+pub fn low_byte(g: Begun) -> u8
     ensures { result ≡ low_byte g }
 {
     match g {
-        Err(_) => 0,
-        Ok(Begun::Enter(_)) => 0,
-        Ok(Begun::Half(_, lo)) => lo,
+        Begun::Halted(_) => 0,
+        Begun::Enter(_) => 0,
+        Begun::Half(_, lo) => lo,
     }
 }
 
 // The rest of a step from its start on, with the registers that the low byte names. An entry writes no register.
 pub fn make_step(
-    g: Result<Begun, Halt>,
+    g: Begun,
     u: u32,
     mu: bool,
     v: u32,
@@ -195,14 +190,14 @@ pub fn make_step(
     ensures mk_after { bits mk.new ≡ begun_marks g (val u mu) (val v mv) (flags tf cy) c m.old (bits mk.old) }
 {
     match g {
-        Err(h) => Err(h),
-        Ok(Begun::Enter(control)) => Ok(Done {
+        Begun::Halted(h) => Err(h),
+        Begun::Enter(control) => Ok(Done {
             control,
             flags: Flags { tf, cy },
             reg: cpu::NO_REG,
             value: 0,
             mark: false,
         }),
-        Ok(Begun::Half(hi, lo)) => half_step(hi, lo, u, mu, v, mv, tf, cy, c, m, mk),
+        Begun::Half(hi, lo) => half_step(hi, lo, u, mu, v, mv, tf, cy, c, m, mk),
     }
 }

@@ -1,7 +1,7 @@
 // The line that a step shows, by value. It changes nothing: a run with a budget of 1 makes the step itself.
 #![tactic(auto)]
 
-ghost use Rattle.std.specs.Prelude.{◌≡◌, false, get_or};
+ghost use Rattle.std.specs.Prelude.{◌≡◌, get_or};
 ghost use Rattle.cpu.specs.Control.{pc_of};
 ghost use Rattle.marks.specs.Memory.{bits};
 ghost use Rattle.instruction.specs.Fetch.{fetch_of};
@@ -16,34 +16,19 @@ use isa::Instr;
 use machine::{Event, Line, State};
 use word::{ByteAddr, Width};
 
-fn value_in(regs: [u32; 16], i: u32) -> u32
-    ensures { result ≡ get_or regs i 0 }
+// A register's value or mark; `none` where there is no such register.
+fn get<T: Copy>(all: [T; 16], i: u32, none: T) -> T
+    ensures { result ≡ get_or all i none }
 {
-    if i < 16 {
-        let k = i as usize;
-        return regs[k];
-    }
-    0
-}
-
-fn mark_in(marks: [bool; 16], i: u32) -> bool
-    ensures { result ≡ get_or marks i false }
-{
-    if i < 16 {
-        let k = i as usize;
-        return marks[k];
-    }
-    false
+    if i < 16 { all[i as usize] } else { none }
 }
 
 fn data_of(r: Reach) -> Option<ByteAddr>
     ensures { result ≡ data_of r }
 {
     match r {
-        Reach::Nowhere => None,
-        Reach::Reads(_, a) => Some(a),
-        Reach::Writes(_, a) => Some(a),
-        Reach::Raises(_) => None,
+        Reach::Reads(_, a) | Reach::Writes(_, a) => Some(a),
+        Reach::Nowhere | Reach::Raises(_) => None,
     }
 }
 
@@ -52,24 +37,9 @@ fn address_of(i: Instr, v: u32, c: Control) -> Option<ByteAddr>
     ensures { result ≡ data_of (reach_of i v c) }
 {
     match i {
-        Instr::Alu(_, _, _) => None,
-        Instr::ShiftImm(_, _, _) => None,
-        Instr::Cmp(_, _, _) => None,
-        Instr::CmpImm(_, _, _) => None,
-        Instr::Cond(_, _, _, _) => None,
-        Instr::CondImm(_, _, _) => None,
         Instr::Ldrpc(_, n) => Some(cpu::data_address(Width::Word, c.pc, n)),
-        Instr::Imm(_, _, _) => None,
-        Instr::Load(w, _, n, _) => Some(cpu::data_address(w, v, n)),
-        Instr::Store(w, _, n, _) => Some(cpu::data_address(w, v, n)),
-        Instr::Mfsfr(_, _) => None,
-        Instr::Mtsfr(_, _) => None,
-        Instr::Jr(_) => None,
-        Instr::Jrl(_) => None,
-        Instr::Jsfr(_) => None,
-        Instr::Swint(_) => None,
-        Instr::ShortJump(_, _) => None,
-        Instr::LongJump(_, _) => None,
+        Instr::Load(w, _, n, _) | Instr::Store(w, _, n, _) => Some(cpu::data_address(w, v, n)),
+        _ => None,
     }
 }
 
@@ -88,10 +58,8 @@ fn show_halt(h: Halt, address: Option<ByteAddr>, c: Control) -> Option<Line>
 {
     match h {
         Halt::FetchOutside => entry_line(Entry::FetchError, None, c),
-        Halt::FetchMarked => None,
-        Halt::NoInstruction => None,
-        Halt::MarkedOperand => None,
         Halt::DataOutside => entry_line(Entry::DataError, address, c),
+        Halt::FetchMarked | Halt::NoInstruction | Halt::MarkedOperand => None,
     }
 }
 
@@ -100,14 +68,7 @@ fn show_act(a: Act, address: Option<ByteAddr>, c: Control) -> Option<Line>
 {
     match a {
         Err(h) => show_halt(h, address, c),
-        Ok((e, _, r)) => {
-            let made = e.control;
-            Some(Line {
-                pc: ByteAddr(c.pc),
-                entry: machine::entry_of(r, made),
-                address: data_of(r),
-            })
-        }
+        Ok((e, _, r)) => entry_line(machine::entry_of(r, e.control), data_of(r), c),
     }
 }
 
@@ -115,13 +76,11 @@ fn show_instr(i: Instr, s: State, m: &[u8], mk: &[u8]) -> Option<Line>
     ensures { result ≡ seen_in (instr_step i s m.now (bits mk.now)) }
 {
     let o = cpu::sources_of(i);
-    let regs = s.regs;
-    let marks = s.marks;
     let c = s.control;
-    let u = value_in(regs, o.first);
-    let mu = mark_in(marks, o.first);
-    let v = value_in(regs, o.second);
-    let mv = mark_in(marks, o.second);
+    let u = get(s.regs, o.first, 0);
+    let mu = get(s.marks, o.first, false);
+    let v = get(s.regs, o.second, 0);
+    let mv = get(s.marks, o.second, false);
     let a = instruction::classes::act_on(i, u, mu, v, mv, s.flags.tf, s.flags.cy, c, m, mk);
     show_act(a, address_of(i, v, c), c)
 }
@@ -129,8 +88,7 @@ fn show_instr(i: Instr, s: State, m: &[u8], mk: &[u8]) -> Option<Line>
 fn show_fetch(s: State, m: &[u8], mk: &[u8]) -> Option<Line>
     ensures { result ≡ seen_in (fetch_step (fetch_of (pc_of s.control) m.now (bits mk.now)) s m.now (bits mk.now)) }
 {
-    let f = instruction::fetch::fetch(ByteAddr(s.control.pc), m, mk);
-    match f {
+    match instruction::fetch::fetch(ByteAddr(s.control.pc), m, mk) {
         Err(h) => show_halt(h, None, s.control),
         Ok(i) => show_instr(i, s, m, mk),
     }
@@ -139,10 +97,8 @@ fn show_fetch(s: State, m: &[u8], mk: &[u8]) -> Option<Line>
 pub fn show(t: u32, s: State, m: &[u8], mk: &[u8]) -> Option<Line>
     ensures { result ≡ seen_in (step_of t s m.now (bits mk.now)) }
 {
-    let c = s.control;
-    let e = machine::choose(t, c);
-    match e {
-        Event::Enter(entry) => entry_line(entry, None, c),
+    match machine::choose(t, s.control) {
+        Event::Enter(entry) => entry_line(entry, None, s.control),
         Event::Instruction => show_fetch(s, m, mk),
     }
 }
