@@ -2,17 +2,19 @@
 -- Assumes nothing.
 use Prim.Native.Nat.{ℕ, zero, suc, ◌+◌, ◌*◌, ◌-◌, ◌/◌, ◌%◌, ◌^◌, ◌<◌, ◌≤◌}
 use mathlib.Core.Path.{◌≡◌, refl, sym, ap, ap₂, subst, subst⁻¹, ◌∙◌}
-use mathlib.Core.Bool.{Bool, true, false, ◌&&◌}
+use mathlib.Core.Bool.{Bool, true, false, cond, ◌&&◌}
 use mathlib.Core.List.{List, [], ◌∷◌, ◌++◌}
 use native.Mathlib.Nat.{lt_irrefl, mul-le-mul_left}
 use native.Mathlib.Numerals.{add-one}
 use native.Mathlib.Omega.{arith}
 use lib.Arith.{digits_lt}
-use lib.Dec.{eqb}
+use lib.Dec.{eqb, ltb}
 use borrow.Author.Tests.{lt-ltb, le-ltb, eq-eqb, ne_eqb}
 use lib.Pow.{pow-add, pow_mono}
 use lib.ListN.{length, get_or, take, drop, set, length-drop, drop_of_length-le}
 use lib.Seq.{take_all, append_snoc, drop-cons, lt-length-set, get_or-set_same, drop-set-lt}
+use Rattle.std.specs.List.{prefix_len, list_all}
+use Rattle.std.specs.Cmp.Lexicographic.{pointwise}
 use Rattle.text.specs.Digits.{value_of, glyph_of, digits_read, digits_in, digits_of, are_hex}
 use Rattle.text.specs.Fields.{tab_of, same_of}
 use Rattle.text.specs.declared.Read.{Read}
@@ -161,3 +163,22 @@ pub digits_start : (b n : ℕ) (l : List ℕ) → 0 + digits_in b (n - 0) (drop 
 digits_start b n l =
     let s : n - 0 ≡ n = omega arith in
     rw s (omega arith)
+
+-- in the library's words
+pub hex_is : (l : List ℕ) → are_hex l ≡ list_all (λ c. ltb (value_of c) 16) l
+unfolding are_hex
+hex_is [] = refl
+hex_is (c ∷ l) = rw (hex_is l)
+
+pub digits_is : (b n : ℕ) (l : List ℕ) → digits_in b n l ≡ prefix_len (λ c. ltb (value_of c) b) (take n l)
+unfolding digits_in
+digits_is b zero l = refl
+digits_is b (suc n) [] = refl
+digits_is b (suc n) (c ∷ l) = ap (λ (k : ℕ). cond (ltb (value_of c) b) (suc k) 0) (digits_is b n l) ∙ ap (λ (k : ℕ). cond (ltb (value_of c) b) k 0) (omega arith)
+
+pub same_is : (a b : List ℕ) → same_of a b ≡ pointwise eqb a b
+unfolding same_of
+same_is [] [] = refl
+same_is [] (y ∷ b) = refl
+same_is (x ∷ a) [] = refl
+same_is (x ∷ a) (y ∷ b) = rw (same_is a b)

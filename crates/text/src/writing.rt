@@ -27,10 +27,8 @@ fn put_some(out: &mut [u8], from: usize, s: &[u8]) -> usize
     ensures { page out.new result ≡ write_on s.now (page out.old from) }
 {
     let mut at = from;
-    let mut i: usize = 0;
-    while i < s.len() {
-        at = put(out, at, s[i]);
-        i += 1;
+    for b in s {
+        at = put(out, at, *b);
     }
     at
 }
@@ -45,12 +43,9 @@ pub fn put_all(out: &mut [u8], from: usize, s: &[u8]) -> usize
     if out.len() - from < s.len() {
         return put_some(out, from, s);
     }
-    let mut i: usize = 0;
-    while i < s.len() {
-        out[from + i] = s[i];
-        i += 1;
-    }
-    from + i
+    let end = from + s.len();
+    out[from..end].copy_from_slice(s);
+    end
 }
 
 fn spelled(n: u64) -> Spelling
