@@ -2,15 +2,13 @@
 -- Assumes nothing.
 use Prim.Native.Nat.{ℕ, suc, ◌+◌, ◌<◌, ◌≤◌}
 use mathlib.Core.Path.{◌≡◌, refl, sym, ap, ◌∙◌}
-use mathlib.Core.List.{List, [], ◌∷◌, ◌++◌, append_assoc}
+use mathlib.Core.List.{List, [], ◌∷◌, ◌++◌}
 use native.Mathlib.Nat.{add-zero}
 use native.Mathlib.Numerals.{add-one}
 use native.Mathlib.Omega.{arith}
-use lib.ListN.{length, get_or, take, drop, set, length-set, drop_of_length-le}
-use lib.Seq.{sets, drop-cons, drop-drop}
+use lib.ListN.{length, get_or, drop, set, length-set, drop_of_length-le}
+use lib.Seq.{sets, drop-cons}
 use borrow.Author.Tests.{lt-ltb, le-ltb}
-use Rattle.std.proofs.lemmas.List.Edits.{sets-eq}
-use borrow.Rule.Slice.PartMut.{put_mid}
 use Rattle.text.specs.Pages.{Page, page, one_on, write_on}
 
 -- two texts one after the other, three, and five
@@ -61,7 +59,3 @@ pub written : (t l : List ℕ) → length t ≤ length l → write_on t (page l 
 written t l h =
     let e : 0 + length t ≡ length t = omega arith in
     written_at t l 0 (omega arith) ∙ ap (page (sets l 0 t)) e
-
--- a text copied over the part of a room that it has
-pub written_mid : (s out : List ℕ) (a k : ℕ) → k ≡ length s → a + length s ≤ length out → write_on s (page out a) ≡ page (put_mid a k out s) (a + length s)
-written_mid s out a k e h = written_at s out a h ∙ ap (λ (l : List ℕ). page l (a + length s)) (sets-eq s out a h ∙ append_assoc (take a out) s (drop (a + length s) out) ∙ ap (λ (r : List ℕ). take a out ++ (s ++ r)) (sym (drop-drop k a out ∙ ap (λ (n : ℕ). drop (a + n) out) e)))

@@ -172,18 +172,22 @@ fn spell(base: u64, n: u64, out: &mut [u8])
     }
 }
 
+fn hex_digits<const N: usize>(n: u64) -> [u8; N]
+    ensures { result ≡ digits_of 16 N n }
+{
+    let mut digits = [0u8; N];
+    spell(16, n, &mut digits);
+    digits
+}
+
 pub fn hex(n: u32) -> [u8; 8]
     ensures { result ≡ hex_text n }
 {
-    let mut digits = [0u8; 8];
-    spell(16, n as u64, &mut digits);
-    digits
+    hex_digits(n as u64)
 }
 
 pub fn half_hex(n: u16) -> [u8; 4]
     ensures { result ≡ half_text n }
 {
-    let mut digits = [0u8; 4];
-    spell(16, n as u64, &mut digits);
-    digits
+    hex_digits(n as u64)
 }
