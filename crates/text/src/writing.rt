@@ -76,11 +76,12 @@ pub fn put_number(out: &mut [u8], at: usize, n: u64) -> usize
 pub fn put_signed(out: &mut [u8], at: usize, n: u32) -> usize
     ensures { page out.new result ≡ write_on (signed_text n) (page out.old at) }
 {
-    if n < 2147483648 {
-        return put_number(out, at, n as u64);
+    let signed = n.cast_signed();
+    if signed < 0 {
+        let a = put(out, at, b'-');
+        return put_number(out, a, signed.unsigned_abs() as u64);
     }
-    let a = put(out, at, b'-');
-    put_number(out, a, 4294967296 - n as u64)
+    put_number(out, at, n as u64)
 }
 
 pub fn put_hex(out: &mut [u8], at: usize, n: u32) -> usize
