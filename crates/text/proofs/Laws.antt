@@ -1,23 +1,23 @@
 -- Laws that the functions' proofs cite: a list read from one place on.
 -- Assumes nothing.
+use Rattle.std.specs.Prelude.{None, Some}
 use Prim.Native.Nat.{ℕ, zero, suc, ◌+◌, ◌*◌, ◌-◌, ◌/◌, ◌%◌, ◌^◌, ◌<◌, ◌≤◌}
 use mathlib.Core.Path.{◌≡◌, refl, sym, ap, ap₂, subst, subst⁻¹, ◌∙◌}
-use mathlib.Core.Bool.{Bool, true, false, cond, ◌&&◌}
+use mathlib.Core.Bool.{cond}
 use mathlib.Core.List.{List, [], ◌∷◌, ◌++◌}
 use native.Mathlib.Nat.{lt_irrefl, mul-le-mul_left}
 use native.Mathlib.Numerals.{add-one}
 use native.Mathlib.Omega.{arith}
 use lib.Arith.{digits_lt}
 use lib.Dec.{eqb, ltb}
-use borrow.Author.Tests.{lt-ltb, le-ltb, eq-eqb, ne_eqb}
-use lib.Pow.{pow-add, pow_mono}
-use lib.ListN.{length, get_or, take, drop, set, length-drop, drop_of_length-le}
-use lib.Seq.{take_all, append_snoc, drop-cons, lt-length-set, get_or-set_same, drop-set-lt}
+use borrow.Author.Tests.{lt-ltb, le-ltb}
+use lib.Pow.{pow-add}
+use lib.ListN.{length, get_or, take, drop, set, drop_of_length-le}
+use lib.Seq.{append_snoc, drop-cons, lt-length-set, get_or-set_same, drop-set-lt}
 use Rattle.std.specs.List.{prefix_len, list_all}
 use Rattle.std.specs.Cmp.Lexicographic.{pointwise}
 use Rattle.text.specs.Digits.{value_of, glyph_of, digits_read, digits_in, digits_of, are_hex}
-use Rattle.text.specs.Fields.{tab_of, same_of}
-use Rattle.text.specs.declared.Read.{Read}
+use Rattle.text.specs.Fields.{same_of}
 
 module _ (l : List ℕ) (i : ℕ) (h : i < length l) where
   next : drop i l ≡ get_or l i 0 ∷ drop (i + 1) l
@@ -28,13 +28,13 @@ module _ (l : List ℕ) (i : ℕ) (h : i < length l) where
   unfolding digits_read
   number_on b v d e k = rw (next, ← e, lt-ltb d b k)
 
-  pub number_stop : (b v d : ℕ) → d ≡ value_of (get_or l i 0) → b ≤ d → digits_read b v (drop i l) ≡ Read.Nothing
+  pub number_stop : (b v d : ℕ) → d ≡ value_of (get_or l i 0) → b ≤ d → digits_read b v (drop i l) ≡ None
   unfolding digits_read
   number_stop b v d e k = rw (next, ← e, le-ltb d b k)
 
 -- and from the end on
 module _ (l : List ℕ) (i : ℕ) (h : length l ≤ i) where
-  pub number_none : (b v : ℕ) → digits_read b v (drop i l) ≡ Read.Number v
+  pub number_none : (b v : ℕ) → digits_read b v (drop i l) ≡ Some v
   unfolding digits_read
   number_none b v = rw (drop_of_length-le l h)
 

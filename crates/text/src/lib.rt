@@ -9,13 +9,6 @@ mod writing;
 
 pub use writing::{put, put_all, put_half, put_hex, put_number, put_signed};
 
-// What a field says.
-#[derive(Clone, Copy)]
-pub enum Read {
-    Number(u32),
-    Nothing,
-}
-
 // ---- parts and fields
 
 // The first n bytes, or all where there are fewer.
@@ -71,7 +64,7 @@ pub fn value(c: u8) -> u32
     }
 }
 
-fn number(base: u32, l: &[u8]) -> Read
+fn number(base: u32, l: &[u8]) -> Option<u32>
     requires { (base ≤ 16) × (length l.now ≤ 8) }
     ensures { result ≡ digits_read base 0 l.now }
 {
@@ -79,11 +72,11 @@ fn number(base: u32, l: &[u8]) -> Read
     for c in l {
         let d = value(*c);
         if base <= d {
-            return Read::Nothing;
+            return None;
         }
         v = v * base as u64 + d as u64;
     }
-    Read::Number(v as u32)
+    Some(v as u32)
 }
 
 // How far digits of a base reach, among the first `most` bytes.
@@ -102,28 +95,22 @@ pub fn has_leading_zero(l: &[u8]) -> bool
     l.len() > 1 && l[0] == b'0'
 }
 
-pub fn decimal(l: &[u8]) -> Read
+pub fn decimal(l: &[u8]) -> Option<u32>
     ensures { result ≡ decimal_of l.now }
 {
-    if 1 <= l.len() {
-        if l.len() <= 5 {
-            if has_leading_zero(l) {
-                return Read::Nothing;
-            }
-            return number(10, l);
-        }
-        return Read::Nothing;
+    if l.is_empty() || l.len() > 5 || has_leading_zero(l) {
+        return None;
     }
-    Read::Nothing
+    number(10, l)
 }
 
-pub fn address(l: &[u8]) -> Read
+pub fn address(l: &[u8]) -> Option<u32>
     ensures { result ≡ address_of l.now }
 {
-    if l.len() == 8 {
-        return number(16, l);
+    if l.len() != 8 {
+        return None;
     }
-    Read::Nothing
+    number(16, l)
 }
 
 pub fn are_hex(l: &[u8]) -> bool
@@ -140,11 +127,16 @@ pub fn pair(c: u8, d: u8) -> u8
 
 // ---- digits written
 
+#[tactic(auto, using(std::proofs::lemmas::Bool::Decides::nat_tests), unfolding(crate::specs::Digits::glyph_of))]
 fn glyph(d: u64) -> u8
     requires { d < 16 }
     ensures { result ≡ glyph_of d }
 {
-    if d < 10 { 48 + d as u8 } else { 87 + d as u8 }
+    if d < 10 {
+        b'0' + d as u8
+    } else {
+        b'a' + (d - 10) as u8
+    }
 }
 
 pub fn glyph_table() -> [u8; 16]

@@ -20,6 +20,6 @@ pub returns : goal.returns
 returns c =
     let i = c.loop-rest.invariant in
     rw c.glyph-2.ensures
-        (take_all _ _ (simp (length-drop, length-set) (omega (arith, i.3)))
-        ∙ decimal_last _ _ _ i.1 i.0 (omega (arith, i.0, i.3)) c.loop-rest-test.false
-        ∙ i.4)
+    (take_all _ _ (simp (length-drop, length-set) (omega (arith, i.3)))
+    ∙ decimal_last _ _ _ i.1 i.0 (omega (arith, i.0, i.3)) c.loop-rest-test.false
+    ∙ i.4)
