@@ -39,12 +39,7 @@ bytes_none h i l = short (drop (2 * i) h) (rw lib.ListN.length-drop (omega arith
     short (c ∷ []) q = refl
     short (c ∷ d ∷ r) q = absurd (omega arith)
 
--- no byte stored yet, one more, and none left
-pub put_start : (m h : List ℕ) (a : ℕ) → sets m (a + 0) (pairs_of (drop (2 * 0) h)) ≡ sets m a (pairs_of h)
-put_start m h a =
-    let e : a + 0 ≡ a = omega arith in
-    rw e
-
+-- one byte more stored, and none left
 pub put_more : (m h : List ℕ) (a i : ℕ) → i < length h / 2
     → sets m (a + i) (pairs_of (drop (2 * i) h)) ≡ sets (set m (a + i) (pair_of (get_or h (2 * i) 0) (get_or h (2 * i + 1) 0))) (a + (i + 1)) (pairs_of (drop (2 * (i + 1)) h))
 put_more m h a i l =
