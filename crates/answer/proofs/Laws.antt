@@ -65,20 +65,3 @@ unfolding registers_text write_on
 registers_none regs marks i p h =
     let e : 16 - i ≡ 0 = omega arith in
     rw e
-
--- ---- parts of a room
-
--- a number of bytes cut to what there is
-pub take_cut : (l : List ℕ) (n r : ℕ) → r ≡ cond (ltb n (length l)) n (length l) → take r l ≡ take n l
-take_cut l n r e = go (ltb n (length l)) refl e
-  where
-    go : (t : Bool) → ltb n (length l) ≡ t → r ≡ cond t n (length l) → take r l ≡ take n l
-    go true h q = rw q
-    go false h q = rw (q, take-length l, take_all n l (ltb-false n (length l) h))
-
-pub drop_cut : (l : List ℕ) (n r : ℕ) → r ≡ cond (ltb n (length l)) n (length l) → drop r l ≡ drop n l
-drop_cut l n r e = go (ltb n (length l)) refl e
-  where
-    go : (t : Bool) → ltb n (length l) ≡ t → r ≡ cond t n (length l) → drop r l ≡ drop n l
-    go true h q = rw q
-    go false h q = rw (q, drop-length l, drop_of_length-le l (ltb-false n (length l) h))

@@ -25,55 +25,46 @@ pub fn no_fault() -> Fault
 fn found_at(reason: Reason, at: usize, l: &[u8]) -> Fault
     ensures { result ≡ found reason at l.now }
 {
-    if at < l.len() {
-        return Fault {
+    match l.get(at) {
+        Some(b) => Fault {
             reason,
             place: at + 1,
-            byte: l[at],
-        };
-    }
-    Fault {
-        reason,
-        place: l.len() + 1,
-        byte: 10,
+            byte: *b,
+        },
+        None => Fault {
+            reason,
+            place: l.len() + 1,
+            byte: b'\n',
+        },
     }
 }
 
 fn ends_word(c: u8) -> bool
     ensures { result ≡ ends_word c }
 {
-    word::either(c < 97, 122 < c)
+    c < b'a' || b'z' < c
 }
 
 fn letters_in(most: usize, l: &[u8]) -> usize
     ensures { result ≡ letters_in most l.now }
 {
-    let mut i: usize = 0;
-    while i < l.len() {
-        if most <= i {
-            return i;
-        }
-        if ends_word(l[i]) {
-            return i;
-        }
-        i += 1;
-    }
-    i
+    l.iter().take(most).take_while(|c| !ends_word(**c)).count()
 }
 
 fn are_bad(d: usize, n: usize) -> bool
     ensures { result ≡ bad_digits d n }
 {
-    word::either(d == 0, d < n)
+    d == 0 || d < n
 }
 
 fn is_bad_address(d: usize, n: usize) -> bool
     ensures { result ≡ bad_address d n }
 {
-    !word::both(d == 8, n == 8)
+    d != 8 || n != 8
 }
 
 // `rest` is what is wrong beyond the form of the field, which starts at `at`.
+#[tactic(auto, unfolding(crate::specs::Fault::decimal_fault))]
 fn decimal_fault(at: usize, l: &[u8], f: &[u8], rest: Fault) -> Fault
     requires { at ≤ 32 }
     ensures { result ≡ decimal_fault at l.now f.now rest }
@@ -88,6 +79,7 @@ fn decimal_fault(at: usize, l: &[u8], f: &[u8], rest: Fault) -> Fault
     rest
 }
 
+#[tactic(auto, unfolding(crate::specs::Fault::address_fault))]
 fn address_fault(at: usize, l: &[u8], f: &[u8], rest: Fault) -> Fault
     requires { at ≤ 32 }
     ensures { result ≡ address_fault at l.now f.now rest }
@@ -99,6 +91,7 @@ fn address_fault(at: usize, l: &[u8], f: &[u8], rest: Fault) -> Fault
     rest
 }
 
+#[tactic(auto, unfolding(crate::specs::Fault::bytes_fault))]
 fn bytes_fault(l: &[u8], h: &[u8], rest: Fault) -> Fault
     ensures { result ≡ bytes_fault l.now h.now rest }
 {
@@ -112,35 +105,28 @@ fn bytes_fault(l: &[u8], h: &[u8], rest: Fault) -> Fault
     found_at(Reason::Odd, 12 + d, l)
 }
 
+#[tactic(auto, unfolding(crate::specs::Fault::limit_fault))]
 fn limit_fault(r: Option<u32>, l: &[u8]) -> Fault
     ensures { result ≡ limit_fault r l.now }
 {
     match r {
-        None => no_fault(),
-        Some(n) => {
-            if n <= 16384 {
-                return no_fault();
-            }
-            found_at(Reason::TooLarge, 4, l)
-        }
+        Some(n) if n > 16384 => found_at(Reason::TooLarge, 4, l),
+        _ => no_fault(),
     }
 }
 
+#[tactic(auto, unfolding(crate::specs::Fault::away_fault))]
 fn away_fault(x: Option<u32>, c: usize, at: usize, l: &[u8], n: u32) -> Fault
     requires { c < 9223372036854775808 }
     ensures { result ≡ away_fault x c at l.now n }
 {
     match x {
-        None => no_fault(),
-        Some(a) => {
-            if word::either(c == 0, is_inside(a, c, n)) {
-                return no_fault();
-            }
-            found_at(Reason::Outside, at, l)
-        }
+        Some(a) if c != 0 && !is_inside(a, c, n) => found_at(Reason::Outside, at, l),
+        _ => no_fault(),
     }
 }
 
+#[tactic(auto, unfolding(crate::specs::Fault::count_fault))]
 fn count_fault(x: Option<u32>, r: Option<u32>, l: &[u8], n: u32) -> Fault
     ensures { result ≡ count_fault x r l.now n }
 {
@@ -175,6 +161,7 @@ fn mark_fault(l: &[u8], r: &[u8], n: u32) -> Fault
     address_fault(5, l, f, decimal_fault(14, l, c, away))
 }
 
+#[tactic(auto, unfolding(crate::specs::Fault::first_fault))]
 fn first_fault(l: &[u8]) -> Fault
     ensures { result ≡ first_fault l.now }
 {
@@ -184,6 +171,7 @@ fn first_fault(l: &[u8]) -> Fault
     found_at(Reason::First, letters_in(4, l), l)
 }
 
+#[tactic(auto, unfolding(crate::specs::Fault::body_fault))]
 fn body_fault(l: &[u8], w: &[u8], r: &[u8], n: u32) -> Fault
     ensures { result ≡ body_fault l.now w.now r.now n }
 {
@@ -199,6 +187,7 @@ fn body_fault(l: &[u8], w: &[u8], r: &[u8], n: u32) -> Fault
     found_at(Reason::Word, letters_in(4, l), l)
 }
 
+#[tactic(auto, unfolding(crate::specs::Fault::fault_of))]
 pub fn line_fault(p: Phase, f: Fault, l: &[u8]) -> Fault
     ensures { result ≡ fault_of p f l.now }
 {
@@ -211,14 +200,13 @@ pub fn line_fault(p: Phase, f: Fault, l: &[u8]) -> Fault
 }
 
 // After the last part: why the answer is `bad`, or that nothing is wrong.
+#[tactic(auto, unfolding(crate::specs::Fault::end_fault))]
 pub fn why(r: Reader) -> Fault
     ensures { result ≡ why_of r }
 {
-    let phase = r.phase;
     let ended = r.used == 0;
-    match phase {
-        Phase::First => unread(ended),
-        Phase::Body(_) => unread(ended),
+    match r.phase {
+        Phase::First | Phase::Body(_) => unread(ended),
         Phase::Done(_, _) => trailing(ended),
         Phase::Bad => r.fault,
     }
@@ -227,17 +215,19 @@ pub fn why(r: Reader) -> Fault
 fn unread(ended: bool) -> Fault
     ensures { result ≡ early (cond ended Reason.Missing Reason.Unended) }
 {
-    if ended {
-        return early_fault(Reason::Missing);
-    }
-    early_fault(Reason::Unended)
+    early_fault(if ended {
+        Reason::Missing
+    } else {
+        Reason::Unended
+    })
 }
 
 fn trailing(ended: bool) -> Fault
     ensures { result ≡ early (cond ended Reason.Nothing Reason.AfterRun) }
 {
-    if ended {
-        return no_fault();
-    }
-    early_fault(Reason::AfterRun)
+    early_fault(if ended {
+        Reason::Nothing
+    } else {
+        Reason::AfterRun
+    })
 }
