@@ -9,7 +9,8 @@ use lib.Dec.{ltb}
 use lib.IntN.{ℤ, pos, negsuc, sub_ℕ, neg_ℤ, ◌+ℤ◌, ◌-ℤ◌, ◌*ℤ◌}
 use lib.Signed.{mag, lt_z}
 use borrow.Author.Tests.{ltb-false}
-use mir.Val.{SFits}
+use mir.Val.{SFits, to_z}
+use Rattle.expr.specs.Value.{signed_word}
 use mir.Syntax.{w32, w64}
 
 pub wider : (z : ℤ) → SFits w32 z → SFits w64 z
@@ -72,3 +73,8 @@ module _ (a b : ℤ) (f : SFits w32 a) (g : SFits w32 b) where
 pub less_one : (k : ℕ) → negsuc 0 -ℤ pos k ≡ negsuc k
 less_one zero = refl
 less_one (suc j) = ap negsuc (omega arith)
+
+-- 32 bits read as a signed value, as the code reads them
+pub signed_bits : (n : ℕ) → to_z w32 n ≡ signed_word n
+unfolding signed_word
+signed_bits n = let e : 4294967296 - suc n ≡ 4294967295 - n = omega arith in ap (λ (k : ℕ). cond (ltb n 2147483648) (pos n) (negsuc k)) e

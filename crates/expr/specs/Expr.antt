@@ -3,9 +3,11 @@
 -- A text is read from its front; the answer is a value and how many bytes it took, or the first fault of its form.
 -- Recursion: `inside_of` on the parentheses that may still open, `chain_of` on the text. No fuel.
 -- Assumes nothing.
-use Rattle.std.specs.Prelude.{ℕ, zero, suc, ◌+◌, ◌-◌, ◌*◌, Bool, false, cond, ◌&&◌, ◌||◌, List, [], ◌∷◌, ltb, leb, eqb, length, get_or, take, drop}
+use Rattle.std.specs.Prelude.{ℕ, zero, suc, ◌+◌, ◌-◌, ◌*◌, Bool, false, cond, ◌&&◌, ◌||◌, List, [], ◌∷◌, Option, ◌==◌, ltb, leb, eqb, length, get_or, take, drop, map, find}
+use Rattle.std.specs.Option.{option_map}
 use Rattle.text.specs.Digits.{digits_read, leading_zero}
 use Rattle.text.specs.declared.Read.{Read as Digits}
+use Rattle.expr.specs.declared.Entry.{Entry}
 use Rattle.expr.specs.declared.Value.{Value}
 use Rattle.expr.specs.declared.Fault.{Fault}
 use Rattle.expr.specs.declared.Read.{Read}
@@ -48,6 +50,17 @@ labels k p = record { keys = k; places = p }
 
 abbrev pub none : Labels
 none = labels [] []
+
+-- the same of labels as the code has them, each with its address beside it
+abbrev pub names : List Entry → List ℕ
+names l = map (λ (x : Entry). x.name) l
+
+abbrev pub labels_in : List Entry → Labels
+labels_in l = labels (names l) (map (λ (x : Entry). x.place) l)
+
+-- where the first label stands whose name has the number k, if one has it
+abbrev pub found : List Entry → ℕ → Option ℕ
+found l k = option_map (λ (x : Entry). x.place) (find (λ (x : Entry). x.name == k) l)
 
 -- the place of the first number that is k; the length where there is none
 unfoldable pub index_of : List ℕ → ℕ → ℕ

@@ -1,8 +1,16 @@
 -- Words that only helpers' contracts cite: the form of a sum, as a walk over its bytes (it is the grammar's: proofs/Walk.antt).
 -- Assumes nothing.
-use Rattle.std.specs.Prelude.{ℕ, zero, suc, ◌+◌, ◌-◌, Bool, true, false, cond, not, ◌&&◌, ◌||◌, List, [], ◌∷◌, ltb, eqb, drop}
+use Rattle.std.specs.Prelude.{ℕ, zero, suc, ◌+◌, ◌-◌, Bool, true, false, cond, not, ◌&&◌, ◌||◌, List, [], ◌∷◌, Option, Some, None, ltb, leb, eqb, take, drop}
 use Rattle.expr.specs.declared.form.Turn.{Turn}
-use Rattle.expr.specs.Expr.{size_of, leaf_of, none, adds, multiplies}
+use Rattle.expr.specs.Expr.{is_letter, is_digit, run_of, key_of, size_of, leaf_of, none, adds, multiplies}
+
+-- a letter or a digit
+abbrev pub named : ℕ → Bool
+named c = is_letter c || is_digit c
+
+-- the number of the letters and digits that lead, and how many they are, if they are few enough
+unfoldable pub led_by : List ℕ → Option (ℕ × ℕ)
+led_by s = cond (leb (run_of s) 12) (Some (key_of (take (run_of s) s), run_of s)) None
 
 abbrev pub joins : ℕ → Bool
 joins c = multiplies c || adds c

@@ -1,11 +1,11 @@
 // Sum, product and operand: a cycle of calls that ends since a parenthesis takes one off the allowance.
 ghost use Rattle.std.specs.Prelude.{◌≡◌, ◌+◌, ◌≤◌, ◌<◌, ◌^◌, length};
-ghost use Rattle.expr.specs.Expr.{labels, size_of, joined_of, adds, sign_of, signed_of, closed_of, operand_of, product_of, sum_of, value_of};
+ghost use Rattle.expr.specs.Expr.{labels_in, size_of, joined_of, adds, sign_of, signed_of, closed_of, operand_of, product_of, sum_of, value_of};
 
 use crate::labels::byte;
 use crate::leaves::leaf;
 use crate::values::combine;
-use crate::{Fault, Read, Value};
+use crate::{Fault, Entry, Read, Value};
 
 fn joined(c: u8, v: Value, next: Read) -> Read
     ensures { (result ≡ joined_of c v next) × (size_of result ≤ size_of next) }
@@ -74,8 +74,8 @@ fn closed(s: &[u8], inner: Read) -> Read
 }
 
 #[cycle(operand_product_sum)]
-fn operand(s: &[u8], keys: &[u64], places: &[u32], more: u32) -> Read
-    ensures { (result ≡ operand_of (labels keys.now places.now) more s.now) × (size_of result ≤ length s.now) }
+fn operand(s: &[u8], labels: &[Entry], more: u32) -> Read
+    ensures { (result ≡ operand_of (labels_in labels.now) more s.now) × (size_of result ≤ length s.now) }
 {
     let k = sign(s);
     if byte(s, k) == 40 {
@@ -83,19 +83,19 @@ fn operand(s: &[u8], keys: &[u64], places: &[u32], more: u32) -> Read
             return Read::Not(Fault::Deep);
         }
         let from = k + 1;
-        let inner = sum(&s[from..], keys, places, more - 1);
+        let inner = sum(&s[from..], labels, more - 1);
         let whole = closed(&s[from..], inner);
         return signed(k, whole);
     }
-    let plain = leaf(&s[k..], keys, places);
+    let plain = leaf(&s[k..], labels);
     signed(k, plain)
 }
 
 #[cycle(operand_product_sum)]
-fn product(s: &[u8], keys: &[u64], places: &[u32], more: u32) -> Read
-    ensures { (result ≡ product_of (labels keys.now places.now) more s.now) × (size_of result ≤ length s.now) }
+fn product(s: &[u8], labels: &[Entry], more: u32) -> Read
+    ensures { (result ≡ product_of (labels_in labels.now) more s.now) × (size_of result ≤ length s.now) }
 {
-    let first = operand(s, keys, places, more);
+    let first = operand(s, labels, more);
     match first {
         Read::Got(w, n) => {
             let mut v = w;
@@ -106,7 +106,7 @@ fn product(s: &[u8], keys: &[u64], places: &[u32], more: u32) -> Read
                     return Read::Got(v, at);
                 }
                 let from = at + 1;
-                let next = operand(&s[from..], keys, places, more);
+                let next = operand(&s[from..], labels, more);
                 let whole = joined(c, v, next);
                 match whole {
                     Read::Got(x, m) => {
@@ -125,10 +125,10 @@ fn product(s: &[u8], keys: &[u64], places: &[u32], more: u32) -> Read
 }
 
 #[cycle(operand_product_sum)]
-fn sum(s: &[u8], keys: &[u64], places: &[u32], more: u32) -> Read
-    ensures { (result ≡ sum_of (labels keys.now places.now) more s.now) × (size_of result ≤ length s.now) }
+fn sum(s: &[u8], labels: &[Entry], more: u32) -> Read
+    ensures { (result ≡ sum_of (labels_in labels.now) more s.now) × (size_of result ≤ length s.now) }
 {
-    let first = product(s, keys, places, more);
+    let first = product(s, labels, more);
     match first {
         Read::Got(w, n) => {
             let mut v = w;
@@ -137,7 +137,7 @@ fn sum(s: &[u8], keys: &[u64], places: &[u32], more: u32) -> Read
                 let c = s[at];
                 if is_adding(c) {
                     let from = at + 1;
-                    let next = product(&s[from..], keys, places, more);
+                    let next = product(&s[from..], labels, more);
                     let whole = joined(c, v, next);
                     match whole {
                         Read::Got(x, m) => {
@@ -159,8 +159,8 @@ fn sum(s: &[u8], keys: &[u64], places: &[u32], more: u32) -> Read
 }
 
 // At most eight parentheses may be open.
-pub fn evaluate(s: &[u8], keys: &[u64], places: &[u32]) -> Read
-    ensures { result ≡ value_of (labels keys.now places.now) s.now }
+pub fn evaluate(s: &[u8], labels: &[Entry]) -> Read
+    ensures { result ≡ value_of (labels_in labels.now) s.now }
 {
-    sum(s, keys, places, 8)
+    sum(s, labels, 8)
 }

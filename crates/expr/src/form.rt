@@ -18,7 +18,7 @@ enum Turn {
 fn leaf_size(s: &[u8]) -> usize
     ensures { (result ≡ size_of (leaf_of none s.now)) × (result ≤ length s.now) }
 {
-    let r = leaf(s, &[0u64; 0], &[0u32; 0]);
+    let r = leaf(s, &[]);
     match r {
         Read::Got(_, n) => n,
         Read::Not(_) => 0,

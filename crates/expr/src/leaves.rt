@@ -1,11 +1,11 @@
 // Numbers and labels: the letters and digits that lead, as one word.
 ghost use Rattle.std.specs.Prelude.{◌≡◌, true, cond, ◌+◌, ◌*◌, ◌≤◌, leb, length, get_or, drop};
 ghost use Rattle.text.specs.Digits.{digits_read};
-ghost use Rattle.expr.specs.Expr.{is_letter, is_hex, labels, size_of, counted, number_read, leaf_of};
+ghost use Rattle.expr.specs.Expr.{is_letter, is_hex, labels_in, size_of, counted, number_read, leaf_of};
 
-use crate::labels::{byte, is_letter, mean, rank, run};
+use crate::labels::{byte, is_letter, lead, mean, run};
 use crate::values::write;
-use crate::{Fault, Read};
+use crate::{Fault, Entry, Read};
 
 // One digit more. What is too large stays too large, so it need not grow.
 fn grown(v: u64, base: u64, d: u64) -> u64
@@ -64,32 +64,22 @@ fn number(w: &[u8]) -> Read
     digits(10, 0, w)
 }
 
-// The label that leads: its number is made while it is passed.
-fn name(s: &[u8], keys: &[u64], places: &[u32]) -> Read
+// The label that leads: its number is made while its end is looked for.
+fn name(s: &[u8], labels: &[Entry]) -> Read
     requires { is_letter (get_or s.now 0 0) ≡ true }
-    ensures { (result ≡ leaf_of (labels keys.now places.now) s.now) × (size_of result ≤ length s.now) }
+    ensures { (result ≡ leaf_of (labels_in labels.now) s.now) × (size_of result ≤ length s.now) }
 {
-    let mut v: u64 = 0;
-    let mut i: usize = 0;
-    while i < s.len() {
-        let r = rank(s[i]);
-        if r == 0 {
-            return Read::Got(mean(keys, places, v), i);
-        }
-        if 12 <= i {
-            return Read::Not(Fault::Form);
-        }
-        v = v * 37 + r;
-        i += 1;
+    match lead(s) {
+        Some((v, n)) => Read::Got(mean(labels, v), n),
+        None => Read::Not(Fault::Form),
     }
-    Read::Got(mean(keys, places, v), i)
 }
 
-pub fn leaf(s: &[u8], keys: &[u64], places: &[u32]) -> Read
-    ensures { (result ≡ leaf_of (labels keys.now places.now) s.now) × (size_of result ≤ length s.now) }
+pub fn leaf(s: &[u8], labels: &[Entry]) -> Read
+    ensures { (result ≡ leaf_of (labels_in labels.now) s.now) × (size_of result ≤ length s.now) }
 {
     if is_letter(byte(s, 0)) {
-        return name(s, keys, places);
+        return name(s, labels);
     }
     let n = run(s);
     number(&s[..n])

@@ -11,6 +11,13 @@ pub use cycle::evaluate;
 pub use form::is_sum;
 pub use labels::{find, label};
 
+// A label that is set, in a table of them: its name's number, and its address.
+#[derive(Clone, Copy)]
+pub struct Entry {
+    pub name: u64,
+    pub place: u32,
+}
+
 #[derive(Clone, Copy)]
 pub enum Value {
     Is(i32),

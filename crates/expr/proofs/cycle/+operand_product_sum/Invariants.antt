@@ -1,5 +1,5 @@
 use Rattle.std.proofs.Common.{length, ◌-◌, ◌≡◌, ◌+◌, ◌*◌, ◌≤◌, drop}
-use Rattle.expr.specs.Expr.{labels, adds, multiplies, items_of, chain_of, operand_of, product_of}
+use Rattle.expr.specs.Expr.{labels_in, adds, multiplies, items_of, chain_of, operand_of, product_of}
 use Rattle.expr.proofs.cycle.+operand_product_sum.Given as goal
 
 abbrev pub decreases-operand : goal.decreases-operand
@@ -12,13 +12,13 @@ abbrev pub decreases-sum : goal.decreases-sum
 decreases-sum l = 3 * (length l.s.now + l.more) + 2
 
 abbrev pub invariant-product-loop-at : goal.invariant-product-loop-at
-invariant-product-loop-at l = (l.at ≤ length l.s) × (items_of multiplies (operand_of (labels l.keys l.places) l.more) l.s ≡ chain_of multiplies (operand_of (labels l.keys l.places) l.more) l.v l.at 0 (drop l.at l.s))
+invariant-product-loop-at l = (l.at ≤ length l.s) × (items_of multiplies (operand_of (labels_in l.labels) l.more) l.s ≡ chain_of multiplies (operand_of (labels_in l.labels) l.more) l.v l.at 0 (drop l.at l.s))
 
 abbrev pub decreases-product-loop-at : goal.decreases-product-loop-at
 decreases-product-loop-at l = length l.s - l.at
 
 abbrev pub invariant-sum-loop-at : goal.invariant-sum-loop-at
-invariant-sum-loop-at l = (l.at ≤ length l.s) × (items_of adds (product_of (labels l.keys l.places) l.more) l.s ≡ chain_of adds (product_of (labels l.keys l.places) l.more) l.v l.at 0 (drop l.at l.s))
+invariant-sum-loop-at l = (l.at ≤ length l.s) × (items_of adds (product_of (labels_in l.labels) l.more) l.s ≡ chain_of adds (product_of (labels_in l.labels) l.more) l.v l.at 0 (drop l.at l.s))
 
 abbrev pub decreases-sum-loop-at : goal.decreases-sum-loop-at
 decreases-sum-loop-at l = length l.s - l.at
