@@ -1,5 +1,6 @@
 -- Laws that the functions' proofs cite.
 -- Assumes nothing.
+use Rattle.std.specs.Prelude.{Ok, Err}
 use Prim.Native.Nat.{ℕ, suc, ◌+◌, ◌%◌, ◌<◌, ◌≤◌}
 use mathlib.Core.Path.{◌≡◌, refl, sym, ap, ap₂, ◌∙◌}
 use mathlib.Core.Bool.{Bool, true, false, cond, not, ◌&&◌, ◌||◌}
@@ -14,7 +15,7 @@ use borrow.Author.Tests.{ltb-true, ltb-false}
 use Rattle.word.specs.Addresses.{byte_sum}
 use Rattle.word.specs.declared.ByteAddr.{ByteAddr}
 use Rattle.expr.specs.Expr.{Labels, labels, value_of}
-use Rattle.expr.specs.declared.Read.{Read as Valued}
+use Rattle.expr.specs.Expr.{Read as Valued}
 use Rattle.expr.specs.declared.Value.{Value}
 use Rattle.text.specs.Pages.{Page, write_on}
 use Rattle.text.proofs.Pages.{write_append}
@@ -41,10 +42,10 @@ sum_by t Sort.Sum f o = refl
 pub check_by_lem : (w : What) (a : ByteAddr) (b : List ℕ) (l r : Checked) (v : Valued)
     → check_by w (shape_of w) a (field_at 2 b) (field_at 3 b) (field_at 4 b) l r v ≡ value_check w a b l r v
 unfolding check_by value_check line_bits
-check_by_lem w a b l r (Valued.Not e) = refl
-check_by_lem w a b l r (Valued.Got Value.Unknown n) = refl
-check_by_lem w a b l r (Valued.Got Value.Large n) = refl
-check_by_lem w a b l r (Valued.Got (Value.Is z) n) = refl
+check_by_lem w a b l r (Err e) = refl
+check_by_lem w a b l r (Ok (Value.Unknown, n)) = refl
+check_by_lem w a b l r (Ok (Value.Large, n)) = refl
+check_by_lem w a b l r (Ok (Value.Is z, n)) = refl
 
 -- ---- labels: one more after the first n
 
@@ -133,10 +134,10 @@ fine_before (Checked.Not q) r e = let n : ◌≡◌ {A = ℕ} 0 1 = cc in absurd
 
 fine_value : (w : What) (a : ByteAddr) (b : List ℕ) (x y : Checked) (v : Valued) → value_check w a b x y v ≡ Checked.Fine → y ≡ Checked.Fine
 unfolding value_check
-fine_value w a b x y (Valued.Not e) q = let n : ◌≡◌ {A = ℕ} 0 1 = cc in absurd (omega arith)
-fine_value w a b x y (Valued.Got Value.Unknown n) q = let n : ◌≡◌ {A = ℕ} 0 1 = cc in absurd (omega arith)
-fine_value w a b x y (Valued.Got Value.Large n) q = absurd (fine_before x Refusal.Value q)
-fine_value w a b x y (Valued.Got (Value.Is z) n) q = fine_last x (fit_check (line_bits w a b z)) y q
+fine_value w a b x y (Err e) q = let n : ◌≡◌ {A = ℕ} 0 1 = cc in absurd (omega arith)
+fine_value w a b x y (Ok (Value.Unknown, n)) q = let n : ◌≡◌ {A = ℕ} 0 1 = cc in absurd (omega arith)
+fine_value w a b x y (Ok (Value.Large, n)) q = absurd (fine_before x Refusal.Value q)
+fine_value w a b x y (Ok (Value.Is z, n)) q = fine_last x (fit_check (line_bits w a b z)) y q
 
 pub fine_room : (t : Labels) (s : List ℕ) (a : ByteAddr) (p n m : ℕ) (w : What) (l : List ℕ)
     → line_check t s a (room_check p n m) w l ≡ Checked.Fine → p + n ≤ m

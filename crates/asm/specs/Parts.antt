@@ -1,10 +1,10 @@
 -- Words that only helpers' contracts cite.
 -- Assumes nothing.
-use Rattle.std.specs.Prelude.{ℕ, Bool, true, false, cond, ◌&&◌, ◌||◌, List, [], ◌∷◌, ℤ, length}
+use Rattle.std.specs.Prelude.{ℕ, Bool, true, false, cond, ◌&&◌, ◌||◌, List, [], ◌∷◌, ℤ, length, Ok, Err}
 use Rattle.word.specs.declared.ByteAddr.{ByteAddr}
 use Rattle.isa.specs.declared.Encoded.{Encoded}
 use Rattle.expr.specs.Expr.{Labels}
-use Rattle.expr.specs.declared.Read.{Read as Valued}
+use Rattle.expr.specs.Expr.{Read as Valued}
 use Rattle.expr.specs.declared.Value.{Value}
 use Rattle.forms.specs.Form.{body_of, shape_of, number_at, is_known_as, is_known}
 use Rattle.forms.specs.Says.{bits_of, bits_at}
@@ -38,10 +38,10 @@ abbrev pub bits_by : What → Shape → ByteAddr → List ℕ → List ℕ → L
 bits_by w s a x y z v = bits_at w a (number_at s.first x) (number_at s.second y) (number_at s.third z) (bits_of v)
 
 unfoldable pub check_by : What → Shape → ByteAddr → List ℕ → List ℕ → List ℕ → Checked → Checked → Valued → Checked
-check_by w s a x y z l r (Valued.Not e) = Checked.Not Refusal.Deep
-check_by w s a x y z l r (Valued.Got Value.Unknown n) = Checked.Not Refusal.Label
-check_by w s a x y z l r (Valued.Got Value.Large n) = before l (Checked.Not Refusal.Value)
-check_by w s a x y z l r (Valued.Got (Value.Is v) n) = before l (before (fit_check (bits_by w s a x y z v)) r)
+check_by w s a x y z l r (Err e) = Checked.Not Refusal.Deep
+check_by w s a x y z l r (Ok (Value.Unknown, n)) = Checked.Not Refusal.Label
+check_by w s a x y z l r (Ok (Value.Large, n)) = before l (Checked.Not Refusal.Value)
+check_by w s a x y z l r (Ok (Value.Is v, n)) = before l (before (fit_check (bits_by w s a x y z v)) r)
 
 -- ---- where the form is known
 

@@ -1,5 +1,6 @@
 -- What a line that is not refused says, and its bytes.
 -- Assumes nothing.
+use Rattle.std.specs.Prelude.{Ok, Err}
 use Prim.Native.Nat.{ℕ, ◌+◌, ◌*◌, ◌/◌, ◌%◌, ◌<◌}
 use mathlib.Core.Path.{◌≡◌, refl, ap}
 use mathlib.Core.Bool.{Bool, true, false, cond, ◌&&◌}
@@ -22,7 +23,7 @@ use Rattle.isa.specs.declared.Decoded.{Decoded}
 use Rattle.isa.specs.declared.Encoded.{Encoded}
 use Rattle.isa.proofs.Theorems.{bits_decode}
 use Rattle.expr.specs.Expr.{Labels}
-use Rattle.expr.specs.declared.Read.{Read as Valued}
+use Rattle.expr.specs.Expr.{Read as Valued}
 use Rattle.expr.specs.declared.Value.{Value}
 use Rattle.forms.specs.Form.{body_of, kind_shape, shape_of, is_known_as}
 use Rattle.forms.specs.Says.{bits_of, halves_to, words_to, scaled, says_of, bits_said, bits_at, bytes_in}
@@ -124,7 +125,7 @@ pub record Fine (t : Labels) (s : List ℕ) (a : ByteAddr) (y : Checked) (w : Wh
   pub known : is_known_as w l ≡ true
   pub value : ℤ
   pub read : ℕ
-  pub valued : line_value t (shape_of w) (body_of l) ≡ Valued.Got (Value.Is value) read
+  pub valued : line_value t (shape_of w) (body_of l) ≡ Ok (Value.Is value, read)
   pub label : label_check s (label_in l) ≡ Checked.Fine
   pub fits : fit_check (line_bits w a (body_of l) value) ≡ Checked.Fine
   pub room : y ≡ Checked.Fine
@@ -137,12 +138,12 @@ module _ (t : Labels) (s : List ℕ) (a : ByteAddr) (y : Checked) (w : What) (l 
   by_value : is_known_as w l ≡ true → (v : Valued) → line_value t (shape_of w) (body_of l) ≡ v
       → value_check w a (body_of l) (label_check s (label_in l)) y v ≡ Checked.Fine → Fine t s a y w l
   unfolding value_check
-  by_value k (Valued.Not e) p q = let z : ◌≡◌ {A = ℕ} 0 1 = cc in absurd (omega arith)
-  by_value k (Valued.Got Value.Unknown n) p q = let z : ◌≡◌ {A = ℕ} 0 1 = cc in absurd (omega arith)
-  by_value k (Valued.Got Value.Large n) p q =
+  by_value k (Err e) p q = let z : ◌≡◌ {A = ℕ} 0 1 = cc in absurd (omega arith)
+  by_value k (Ok (Value.Unknown, n)) p q = let z : ◌≡◌ {A = ℕ} 0 1 = cc in absurd (omega arith)
+  by_value k (Ok (Value.Large, n)) p q =
       let b = (fine_both (label_check s (label_in l)) (Checked.Not Refusal.Value) q).1 in
       let z : ◌≡◌ {A = ℕ} 0 1 = cc in absurd (omega arith)
-  by_value k (Valued.Got (Value.Is z) n) p q =
+  by_value k (Ok (Value.Is z, n)) p q =
       let b = fine_both (label_check s (label_in l)) _ q in
       let c = fine_both (fit_check (line_bits w a (body_of l) z)) y b.1 in
       record { known = k; value = z; read = n; valued = p; label = b.0; fits = c.0; room = c.1 }

@@ -1,5 +1,6 @@
 -- The theorems of this crate, each with its statement; read this file alone with specs/. The proofs are in the files that it cites.
 -- Assumes nothing.
+use Rattle.std.specs.Prelude.{Ok}
 use Prim.Native.Nat.{ℕ, ◌+◌, ◌≤◌, ◌<◌}
 use mathlib.Core.Path.{◌≡◌, sym, ap, ◌∙◌}
 use mathlib.Core.Bool.{true, false}
@@ -14,7 +15,7 @@ use Rattle.text.specs.Pages.{Page}
 use Rattle.text.proofs.Pages.{written_at}
 use Rattle.expr.specs.Expr.{Labels, none, meaning}
 use Rattle.expr.specs.Value.{signed_word}
-use Rattle.expr.specs.declared.Read.{Read as Valued}
+use Rattle.expr.specs.Expr.{Read as Valued}
 use Rattle.expr.specs.declared.Value.{Value}
 use Rattle.forms.specs.Form.{lines_of, body_of, shape_of, is_known_as}
 use Rattle.forms.specs.Says.{bytes_in}
@@ -35,18 +36,18 @@ module _ (t : Labels) (s : List ℕ) (a : ByteAddr) (y : Checked) (w : What) (l 
   f : Fine t s a y w l
   f = fine t s a y w l ok
 
-  pub line_has_value : (z : ℤ) × (n : ℕ) × line_value t (shape_of w) (body_of l) ≡ Valued.Got (Value.Is z) n
+  pub line_has_value : (z : ℤ) × (n : ℕ) × line_value t (shape_of w) (body_of l) ≡ Ok (Value.Is z, n)
   line_has_value = (f.value, f.read, f.valued)
 
   -- .. and bits that say what it says with that value: they decode to its instruction, or are its value, big-endian ..
-  pub line_says : (z : ℤ) (n : ℕ) → line_value t (shape_of w) (body_of l) ≡ Valued.Got (Value.Is z) n → Says w a (body_of l) z (line_bits w a (body_of l) z)
+  pub line_says : (z : ℤ) (n : ℕ) → line_value t (shape_of w) (body_of l) ≡ Ok (Value.Is z, n) → Says w a (body_of l) z (line_bits w a (body_of l) z)
   line_says z n e =
       let v = f.valued in
       let q : f.value ≡ z = cc in
       bits_say w a (body_of l) z (in_32_bits t (shape_of w) (body_of l) z n e) (rw q at f.fits)
 
   -- .. these are its bytes ..
-  pub line_bytes_lem : (z : ℤ) (n : ℕ) → line_value t (shape_of w) (body_of l) ≡ Valued.Got (Value.Is z) n → line_bytes t a w l ≡ bytes_in (line_bits w a (body_of l) z)
+  pub line_bytes_lem : (z : ℤ) (n : ℕ) → line_value t (shape_of w) (body_of l) ≡ Ok (Value.Is z, n) → line_bytes t a w l ≡ bytes_in (line_bits w a (body_of l) z)
   unfolding line_bytes value_in
   line_bytes_lem z n e = rw e
 

@@ -13,7 +13,7 @@ use lib.Pow.{pow-add}
 use lib.ListN.{length, get_or, take, drop, length-take, length-drop, drop_of_length-le}
 use native.Mathlib.Nat.{le_refl}
 use lib.Seq.{length-take-le, take_all}
-use Rattle.std.specs.Prelude.{Option, Some, None, map}
+use Rattle.std.specs.Prelude.{Option, Some, None, map, Ok, Err}
 use Rattle.std.specs.Option.{option_map, option_map_or}
 use Rattle.expr.specs.declared.Value.{Value}
 use Rattle.expr.specs.Value.{signed_word}
@@ -21,7 +21,7 @@ use Rattle.expr.specs.Parts.{named, led_by}
 use Rattle.std.specs.List.{find, prefix_len}
 use Rattle.expr.specs.declared.Entry.{Entry}
 use Rattle.expr.specs.declared.Fault.{Fault}
-use Rattle.expr.specs.declared.Read.{Read}
+use Rattle.expr.specs.Expr.{Read}
 use Rattle.expr.specs.Expr.{is_letter, is_digit, run_of, rank_of, key_from, is_name, Labels, labels_in, names, index_of, found, meaning, is_hex, number_read, word_read, leaf_of}
 use Rattle.expr.proofs.Laws.{next}
 
@@ -193,13 +193,13 @@ module _ (s : List ℕ) where
 
   -- what a text says that a letter leads
   module _ (t : Labels) (e : is_letter (get_or s 0 0) ≡ true) where
-    pub word_some : (v n : ℕ) → led_by s ≡ Some (v, n) → Read.Got (meaning t v) n ≡ leaf_of t s
+    pub word_some : (v n : ℕ) → led_by s ≡ Some (v, n) → Ok (meaning t v, n) ≡ leaf_of t s
     unfolding leaf_of word_read
     word_some v n h =
         let k = led_some v n h in
         rw (first_named s e, length-take-le (run_of s) s (run_most s), le-leb (run_of s) 12 k.0, k.1, k.2)
 
-    pub word_none : led_by s ≡ None → Read.Not Fault.Form ≡ leaf_of t s
+    pub word_none : led_by s ≡ None → Err Fault.Form ≡ leaf_of t s
     unfolding leaf_of word_read
     word_none h =
         let k : 12 < run_of s = led_none h in

@@ -12,10 +12,7 @@ fn grown(v: u64, base: u64, d: u64) -> u64
     requires { (base ≤ 16) × (d ≤ 16) }
     ensures { result ≡ cond (leb v 2147483647) (v * base + d) v }
 {
-    if v <= 2147483647 {
-        return v * base + d;
-    }
-    v
+    if v <= 2147483647 { v * base + d } else { v }
 }
 
 // The number of a word from a place on. Each byte must be a digit, also where the number is too large already.
@@ -24,28 +21,20 @@ fn digits(base: u64, from: usize, w: &[u8]) -> Read
     ensures { (result ≡ counted (length w.now) (digits_read base 0 (drop from w.now))) × (size_of result ≤ length w.now) }
 {
     let mut v: u64 = 0;
-    let mut i: usize = from;
-    while i < w.len() {
-        let d = text::value(w[i]) as u64;
+    for c in &w[from..] {
+        let d = text::value(*c) as u64;
         if base <= d {
-            return Read::Not(Fault::Form);
+            return Err(Fault::Form);
         }
         v = grown(v, base, d);
-        i += 1;
     }
-    Read::Got(write(v), w.len())
+    Ok((write(v), w.len()))
 }
 
 fn is_hex(w: &[u8]) -> bool
     ensures { result ≡ is_hex w.now }
 {
-    if 2 < w.len() {
-        if w[0] == 48 {
-            return w[1] == 120;
-        }
-        return false;
-    }
-    false
+    2 < w.len() && w[0] == 48 && w[1] == 120
 }
 
 // A word that no letter leads.
@@ -55,11 +44,8 @@ fn number(w: &[u8]) -> Read
     if is_hex(w) {
         return digits(16, 2, w);
     }
-    if w.len() == 0 {
-        return Read::Not(Fault::Form);
-    }
-    if text::has_leading_zero(w) {
-        return Read::Not(Fault::Form);
+    if w.is_empty() || text::has_leading_zero(w) {
+        return Err(Fault::Form);
     }
     digits(10, 0, w)
 }
@@ -70,8 +56,8 @@ fn name(s: &[u8], labels: &[Entry]) -> Read
     ensures { (result ≡ leaf_of (labels_in labels.now) s.now) × (size_of result ≤ length s.now) }
 {
     match lead(s) {
-        Some((v, n)) => Read::Got(mean(labels, v), n),
-        None => Read::Not(Fault::Form),
+        Some((v, n)) => Ok((mean(labels, v), n)),
+        None => Err(Fault::Form),
     }
 }
 

@@ -5,6 +5,7 @@ mod cycle;
 mod form;
 mod labels;
 mod leaves;
+mod turn;
 mod values;
 
 pub use cycle::evaluate;
@@ -18,6 +19,7 @@ pub struct Entry {
     pub place: u32,
 }
 
+// Three cases and no Result of an Option: that a label is unknown is told before a value that is too large.
 #[derive(Clone, Copy)]
 pub enum Value {
     Is(i32),
@@ -32,8 +34,4 @@ pub enum Fault {
 }
 
 // A value and how many bytes were read, or what is wrong with the form first.
-#[derive(Clone, Copy)]
-pub enum Read {
-    Got(Value, usize),
-    Not(Fault),
-}
+pub type Read = Result<(Value, usize), Fault>;
