@@ -3,10 +3,9 @@
 -- A text is read from its front; the answer is a value and how many bytes it took, or the first fault of its form.
 -- Recursion: `inside_of` on the parentheses that may still open, `chain_of` on the text. No fuel.
 -- Assumes nothing.
-use Rattle.std.specs.Prelude.{ℕ, zero, suc, ◌+◌, ◌-◌, ◌*◌, Bool, false, cond, ◌&&◌, ◌||◌, List, [], ◌∷◌, Option, ◌==◌, ltb, leb, eqb, length, get_or, take, drop, map, find, Result, Ok, Err}
+use Rattle.std.specs.Prelude.{ℕ, zero, suc, ◌+◌, ◌-◌, ◌*◌, Bool, false, cond, ◌&&◌, ◌||◌, List, [], ◌∷◌, ◌==◌, ltb, leb, eqb, length, get_or, take, drop, map, find, None, Option, Some, Result, Ok, Err}
 use Rattle.std.specs.Option.{option_map}
 use Rattle.text.specs.Digits.{digits_read, leading_zero}
-use Rattle.text.specs.declared.Read.{Read as Digits}
 use Rattle.expr.specs.declared.Entry.{Entry}
 use Rattle.expr.specs.declared.Value.{Value}
 use Rattle.expr.specs.declared.Fault.{Fault}
@@ -88,9 +87,9 @@ onward (Err e) f = Err e
 
 -- ---- number or label: the letters and digits that lead, as one word
 
-unfoldable pub counted : ℕ → Digits → Read
-counted n (Digits.Number v) = Ok (written v, n)
-counted n Digits.Nothing = Err Fault.Form
+unfoldable pub counted : ℕ → Option ℕ → Read
+counted n (Some v) = Ok (written v, n)
+counted n None = Err Fault.Form
 
 abbrev pub is_hex : List ℕ → Bool
 is_hex w = ltb 2 (length w) && eqb (get_or w 0 0) 48 && eqb (get_or w 1 0) 120
