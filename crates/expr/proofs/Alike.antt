@@ -3,7 +3,7 @@
 -- Assumes nothing.
 use Rattle.std.specs.Prelude.{None, Option, Some, ℕ, Ok, Err}
 use Prim.Native.Nat.{ℕ, zero, suc, ◌+◌, ◌<◌, ◌≤◌}
-use mathlib.Core.Path.{◌≡◌, refl, ap, ap₂, ◌∙◌}
+use mathlib.Core.Path.{◌≡◌, refl, sym, ap, ap₂, ◌∙◌}
 use mathlib.Core.Bool.{Bool, true, false, cond, ◌||◌}
 use mathlib.Core.List.{List, [], ◌∷◌, ◌++◌, append-nil}
 use native.Mathlib.Omega.{arith}
@@ -17,7 +17,7 @@ use Rattle.expr.specs.declared.Value.{Value}
 use Rattle.expr.specs.declared.Fault.{Fault}
 use Rattle.expr.specs.Value.{combined, written}
 use Rattle.expr.specs.Expr.{Labels, none, size_of, is_letter, is_hex, run_of, key_of, meaning, counted, word_read, leaf_of, joined_of, chain_of, items_of, adds, multiplies, sign_of, signed_of, closed_of, plain_with, operand_with, product_with, sum_with, inside_of, sum_of}
-use Rattle.expr.proofs.Laws.{within, items_got, items_not, chain_stop, chain_on, chain_not, chain_none}
+use Rattle.expr.proofs.Laws.{got_same, within, items_got, items_not, chain_stop, chain_on, chain_not, chain_none}
 use Rattle.expr.proofs.Names.{run_most}
 
 -- ---- nothing is read of nothing
@@ -232,7 +232,7 @@ word_some t [] v e = let z : ◌≡◌ {A = ℕ} 0 1 = cc in omega arith
 word_some t (c ∷ w) v e = go (word_read t (c ∷ w)) e (word_exact any no t t [] nil_name (λ v. tt) (λ k. tt) (λ c v w x y a b. tt) (c ∷ w))
   where
     go : (x : Read) → x ≡ Ok (v, 0) → exact any no (suc (length w)) x x → ⊥
-    go (Ok (u, n)) p (a, b, c) = let q : n ≡ 0 = cc in omega arith
+    go (Ok (u, n)) p (a, b, c) = let q = got_same _ _ _ _ p in omega (arith, q.1)
     go (Err f) p h = let z : ◌≡◌ {A = ℕ} 0 1 = cc in omega arith
 
 pub leaf_some : (t : Labels) (s : List ℕ) (v : Value) → leaf_of t s ≡ Ok (v, 0) → ⊥
@@ -270,7 +270,7 @@ sum_still t more s r v n = go (sum_of t more s) (sum_of t more (s ++ 41 ∷ r)) 
     go : (x y : Read) → like ◌≡◌ no s x y → x ≡ Ok (v, n) → y ≡ Ok (v, n)
     go (Err e) y h p = absurd (let z : ◌≡◌ {A = ℕ} 0 1 = cc in omega arith)
     go (Ok (u, k)) (Err e) h p = absurd h
-    go (Ok (u, k)) (Ok (w, m)) (a, b, c) p = cc
+    go (Ok (u, k)) (Ok (w, m)) (a, b, c) p = let q = got_same _ _ _ _ p in ap₂ (λ (x : Value) (i : ℕ). Ok (x, i)) (sym a ∙ q.0) (b ∙ q.1)
 
 -- ---- whatever labels mean, and however many parentheses may open, the form is the same but for depth
 

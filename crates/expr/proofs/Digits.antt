@@ -12,7 +12,6 @@ use borrow.Author.Tests.{leb-false, lt-ltb}
 use lib.ListN.{length, get_or, drop}
 use Rattle.text.specs.Digits.{value_of, digits_read}
 use Rattle.text.proofs.Laws.{number_on, number_stop, number_none}
-use Rattle.expr.specs.Expr.{Read}
 use Rattle.expr.specs.declared.Fault.{Fault}
 use Rattle.expr.specs.Value.{written}
 use Rattle.expr.specs.Expr.{counted}

@@ -7,10 +7,11 @@ use mathlib.Core.Bool.{Bool, true, false}
 use mathlib.Core.List.{List, [], ◌∷◌}
 use native.Mathlib.Numerals.{add-one}
 use native.Mathlib.Omega.{arith}
-use borrow.Author.Tests.{eq-eqb, ne_eqb}
+use lib.Dec.{ltb}
+use borrow.Author.Tests.{ltb-true, ltb-false, eq-eqb, ne_eqb}
 use lib.ListN.{length, get_or, take, drop, length-drop, drop_of_length-le}
 use lib.Seq.{take_all, drop-cons, drop-drop, get_or-drop}
-use Rattle.expr.specs.Expr.{Labels, onward, joined_of, chain_of, items_of, sign_of, signed_of, closed_of, leaf_of, plain_with, operand_with, sum_with, inside_of, operand_of, sum_of}
+use Rattle.expr.specs.Expr.{Labels, size_of, adds, multiplies, onward, joined_of, chain_of, items_of, sign_of, signed_of, closed_of, leaf_of, plain_with, operand_with, sum_with, inside_of, operand_of, sum_of}
 use Rattle.expr.specs.declared.Value.{Value}
 use Rattle.expr.specs.Expr.{Read}
 use Rattle.expr.specs.declared.Fault.{Fault}
@@ -63,6 +64,39 @@ module _ (joins : ℕ → Bool) (item : List ℕ → Read) where
   pub chain_none : (v : Value) (n : ℕ) (l : List ℕ) (i : ℕ) → length l ≤ i → chain_of joins item v n 0 (drop i l) ≡ Ok (v, n)
   unfolding chain_of
   chain_none v n l i h = rw (drop_of_length-le l h)
+
+-- past the end or at a byte that doesn't join
+pub chain_over : (joins : ℕ → Bool) (item : List ℕ → Read) (l : List ℕ) (i : ℕ) (v : Value) (n : ℕ) → joins (get_or l i 0) ≡ false → chain_of joins item v n 0 (drop i l) ≡ Ok (v, n)
+chain_over joins item l i v n e = go (ltb i (length l)) refl
+  where
+    go : (t : Bool) → ltb i (length l) ≡ t → chain_of joins item v n 0 (drop i l) ≡ Ok (v, n)
+    go true p = chain_stop joins item l i (ltb-true _ _ p) v n e
+    go false p = chain_none joins item v n l i (ltb-false _ _ p)
+
+-- two readings that are the same are of one value, and of as many bytes
+value_of : Read → Value
+value_of (Ok (v, n)) = v
+value_of (Err e) = Value.Unknown
+
+pub got_same : (v w : Value) (n m : ℕ) → ◌≡◌ {A = Read} (Ok (v, n)) (Ok (w, m)) → (v ≡ w) × (n ≡ m)
+unfolding value_of size_of
+got_same v w n m e = (ap value_of e, ap size_of e)
+
+-- ---- where a chain of factors or of terms goes on
+
+pub factor_there : (s : List ℕ) (i b : ℕ) → b ≡ get_or s i 0 → b ≡ 42 → (i < length s) × (multiplies (get_or s i 0) ≡ true)
+factor_there s i b e f = (within s i (λ z. omega (arith, e ∙ z, f)), ap multiplies (sym e ∙ f))
+
+pub term_there : (s : List ℕ) (i b : ℕ) (r : Bool) → b ≡ get_or s i 0 → r ≡ adds b → r ≡ true → (i < length s) × (adds (get_or s i 0) ≡ true)
+term_there s i b r e f g =
+    let t : adds (get_or s i 0) ≡ true = ap adds (sym e) ∙ sym f ∙ g in
+    (within s i (λ z. let k : false ≡ true = ap adds (sym z) ∙ t in let n : ◌≡◌ {A = ℕ} 0 1 = cc in omega arith), t)
+
+pub no_factor : (s : List ℕ) (i b : ℕ) → b ≡ get_or s i 0 → (b ≡ 42 → ⊥) → multiplies (get_or s i 0) ≡ false
+no_factor s i b e f = ap multiplies (sym e) ∙ ne_eqb b 42 f
+
+pub no_term : (s : List ℕ) (i b : ℕ) (r : Bool) → b ≡ get_or s i 0 → r ≡ adds b → r ≡ false → adds (get_or s i 0) ≡ false
+no_term s i b r e f g = ap adds (sym e) ∙ sym f ∙ g
 
 -- ---- a byte that is there
 

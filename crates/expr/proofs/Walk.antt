@@ -1,7 +1,8 @@
 -- The walk over a text is the grammar: laws of its steps, and that it reads an operand, a product and a sum as the definition does.
 -- Assumes nothing.
-use Rattle.std.specs.Prelude.{Ok, Err}
+use Rattle.std.specs.Prelude.{Ok, Err, ◌⊎◌}
 use Prim.Native.Nat.{ℕ, zero, suc, ◌+◌, ◌-◌, ◌<◌, ◌≤◌}
+use mathlib.Core.Logic.{inl, inr}
 use mathlib.Core.Path.{◌≡◌, refl, sym, ap, ◌∙◌}
 use mathlib.Core.Bool.{Bool, true, false, cond, not, ◌&&◌, ◌||◌}
 use mathlib.Core.List.{List, [], ◌∷◌}
@@ -123,6 +124,15 @@ closes_none c k e = rw e (go (eqb c 41))
 
 pub closes_not : (c k : ℕ) → (c ≡ 41 → ⊥) → (eqb c 41 && ltb 0 k) ≡ false
 closes_not c k f = rw (ne_eqb _ _ f)
+
+-- the tests of the code that are false
+pub not_minus : (m : Bool) (c : ℕ) → ((m ≡ true) × (c ≡ 45 → ⊥)) ⊎ (m ≡ false) → (m && eqb c 45) ≡ false
+not_minus m c (inl p) = rw (p.0, ne_eqb _ _ p.1)
+not_minus m c (inr p) = rw p
+
+pub not_closing : (c k : ℕ) → ((c ≡ 41) × (k ≤ 0)) ⊎ (c ≡ 41 → ⊥) → (eqb c 41 && ltb 0 k) ≡ false
+not_closing c k (inl p) = let e : k ≡ 0 = omega (arith, p.1) in closes_none c k e
+not_closing c k (inr p) = closes_not c k p
 
 -- ---- a reading, and the walk after it
 

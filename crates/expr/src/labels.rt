@@ -75,7 +75,11 @@ pub fn label(s: &[u8]) -> u64
     let Some((v, n)) = lead(s) else {
         return 0;
     };
-    if n == s.len() && is_letter(byte(s, 0)) { v } else { 0 }
+    if n == s.len() && is_letter(byte(s, 0)) {
+        v
+    } else {
+        0
+    }
 }
 
 // Where the first label stands whose name has that number.

@@ -5,7 +5,7 @@ ghost use Rattle.expr.specs.Expr.{is_letter, is_hex, labels_in, size_of, counted
 
 use crate::labels::{byte, is_letter, lead, mean, run};
 use crate::values::write;
-use crate::{Fault, Entry, Read};
+use crate::{Entry, Fault, Read};
 
 // One digit more. What is too large stays too large, so it need not grow.
 fn grown(v: u64, base: u64, d: u64) -> u64

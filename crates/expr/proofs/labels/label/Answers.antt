@@ -13,5 +13,6 @@ returns-then-is_letter c =
 
 pub returns-else-n-s : goal.returns-else-n-s
 returns-else-n-s c = elim c.else-n-s.branch [
-    else-n-s-via-then-n-s+else-is_letter w ↦ named_other c.args.s.now (ap is_letter (sym w.byte.ensures) ∙ sym w.is_letter.ensures ∙ w.if-is_letter.false)
-  | else-n-s-via-else-n-s w ↦ named_part c.args.s.now c.in-Some.v c.in-Some.n (sym c.lead.ensures ∙ c.in-Some.is) w.if-n-s.false ]
+  | else-n-s-via-then-n-s+else-is_letter w ↦ named_other c.args.s.now (ap is_letter (sym w.byte.ensures) ∙ sym w.is_letter.ensures ∙ w.if-is_letter.false)
+  | else-n-s-via-else-n-s w ↦ named_part c.args.s.now c.in-Some.v c.in-Some.n (sym c.lead.ensures ∙ c.in-Some.is) w.if-n-s.false
+]
