@@ -23,10 +23,7 @@ fn is_long(first: u16) -> bool
     ensures { result ≡ is_long (first / 256) }
 {
     let n = first / 256;
-    if 224 <= n {
-        return n / 4 % 2 == 0;
-    }
-    false
+    224 <= n && n / 4 % 2 == 0
 }
 
 // The second half, where the first says that there is one.
@@ -34,25 +31,18 @@ fn second_in(image: &[u8], at: ByteAddr, first: u16) -> u16
     ensures { result ≡ second_in image.now at first }
 {
     if is_long(first) {
-        return half_in(image, word::byte_sum(at, 2));
+        half_in(image, word::byte_sum(at, 2))
+    } else {
+        0
     }
-    0
 }
 
 fn cut(end: usize, at: ByteAddr, d: Decoded) -> Decoded
     ensures { result ≡ cut_by end at d }
 {
     match d {
-        Decoded::Short(i) => Decoded::Short(i),
-        Decoded::Long(i) => {
-            let next = at.0 as usize + 4;
-            if next <= end {
-                Decoded::Long(i)
-            } else {
-                Decoded::Nothing
-            }
-        }
-        Decoded::Nothing => Decoded::Nothing,
+        Decoded::Long(_) if end < at.0 as usize + 4 => Decoded::Nothing,
+        _ => d,
     }
 }
 
@@ -128,9 +118,10 @@ fn put_second(out: &mut [u8], at: usize, long: bool, second: u16) -> usize
     ensures { page out.new result ≡ write_on (second_text long second) (page out.old at) }
 {
     if long {
-        return text::put_half(out, at, second);
+        text::put_half(out, at, second)
+    } else {
+        at
     }
-    at
 }
 
 pub fn put_entry(out: &mut [u8], at: usize, digits: &[u8; 16], table: &[u8; 492], x: Entry) -> usize

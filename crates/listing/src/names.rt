@@ -12,13 +12,11 @@ pub fn place_of(first: u16) -> u32
     ensures { result ≡ place_of (first / 256) }
 {
     let n = first as u32 / 256;
-    if n < 64 {
-        return n;
+    match n {
+        0..64 => n,
+        64..224 => 60 + n / 16,
+        _ => 18 + n / 4,
     }
-    if n < 224 {
-        return 60 + n / 16;
-    }
-    18 + n / 4
 }
 
 pub fn table() -> [u8; 492]
@@ -32,20 +30,10 @@ pub fn put_name(out: &mut [u8], from: usize, table: &[u8; 492], place: u32) -> u
     requires { table.now ≡ names }
     ensures { page out.new result ≡ write_on (name_at place) (page out.old from) }
 {
-    let first = place as usize * 6;
-    let mut at = from;
-    let mut i: usize = 0;
-    while i < 6 {
-        let k = first + i;
-        if 492 <= k {
-            return at;
-        }
-        let letter = table[k];
-        if letter == b' ' {
-            return at;
-        }
-        at = text::put(out, at, letter);
-        i += 1;
-    }
-    at
+    let letters = text::start_part(text::end_part(table, place as usize * 6), 6);
+    let n = letters
+        .iter()
+        .position(|x| *x == b' ')
+        .unwrap_or(letters.len());
+    text::put_all(out, from, text::start_part(letters, n))
 }

@@ -32,26 +32,7 @@ pub fn length(r: Listed) -> usize
 fn is_out_of(length: usize, start: usize, end: usize) -> bool
     ensures { result ≡ is_out_of length start end }
 {
-    if 65536 < length {
-        return true;
-    }
-    if start % 2 == 1 {
-        return true;
-    }
-    if end % 2 == 1 {
-        return true;
-    }
-    if end < start {
-        return true;
-    }
-    length < end
-}
-
-// The place after a line, or the first place again.
-fn place_after(keep: bool, place: usize) -> usize
-    ensures { result ≡ cond keep place 0 }
-{
-    if keep { place } else { 0 }
+    65536 < length || start % 2 == 1 || end % 2 == 1 || end < start || length < end
 }
 
 // The lines of a range and their length. Kept lines stand one after the other, others each over the one before it.
@@ -70,7 +51,7 @@ fn put_lines(out: &mut [u8], image: &[u8], start: u32, end: usize, keep: bool) -
         let s = x.shown;
         let after = put_entry(out, to, &digits, &names, x);
         total += after - to;
-        to = place_after(keep, after);
+        to = if keep { after } else { 0 };
         at += size(s.long);
     }
     total
