@@ -5,14 +5,10 @@ use mathlib.Core.Path.{◌≡◌, refl, sym, ap, ◌∙◌}
 use mathlib.Core.List.{List, [], ◌∷◌, ◌++◌, append_assoc}
 use native.Mathlib.Omega.{arith}
 use lib.Dec.{eqb}
-use lib.ListN.{length, get_or, take, drop}
-use mathlib.Core.Bool.{Bool, true, false, cond, not}
-use Rattle.std.proofs.Common.{Option, Some, None, one-add, ltb}
-use Rattle.std.specs.List.{position_or_len}
-use Rattle.std.specs.Option.{unwrap_or}
-use Rattle.std.proofs.lemmas.List.Sums.{prefix_len-le-length}
+use lib.ListN.{length, get_or, take, drop, drop_of_length-le}
+use mathlib.Core.Bool.{cond}
 use lib.Seq.{drop-cons}
-use borrow.Author.Tests.{eqb-true, lt-ltb, ltb-false}
+use borrow.Author.Tests.{eqb-true, eq-eqb, ne_eqb, lt-ltb}
 use Rattle.isa.proofs.Rows.{each_at}
 use Rattle.text.specs.Digits.{glyph_of, glyphs, digits_of, hex_text, half_text}
 use Rattle.text.specs.Pages.{Page, one_on, write_on}
@@ -88,44 +84,46 @@ register_two n l h =
     let b : 48 + n % 10 ≡ 38 + n = omega arith in
     sym (rw (decimal_two n l (omega arith), a, lt-ltb (n % 10) 10 (omega arith), b))
 
--- ---- what `position` answers, or else the length
+-- ---- names: from letter i of a place's six on
 
-first_or_all : (p : ℕ → Bool) (l : List ℕ) (r : Option ℕ) → r ≡ cond (ltb (position_or_len p l) (length l)) (Some (position_or_len p l)) None
-    → unwrap_or r (length l) ≡ position_or_len p l
-first_or_all p l r e = go (ltb (position_or_len p l) (length l)) refl e
-  where
-    go : (t : Bool) → ltb (position_or_len p l) (length l) ≡ t → r ≡ cond t (Some (position_or_len p l)) None → unwrap_or r (length l) ≡ position_or_len p l
-    go true h e = rw e
-    go false h e =
-        let a = ltb-false _ _ h in
-        let b = prefix_len-le-length (λ x. not (p x)) l in
-        rw e (omega arith)
-
--- ---- names
-
--- those before the first blank, of the first n letters
-letters_before : (n : ℕ) (l : List ℕ) → take (position_or_len (λ x. eqb x 32) (take n l)) (take n l) ≡ letters_in n l
+-- six letters are enough
+six_letters : (n : ℕ) (l : List ℕ) → letters_in n (take n l) ≡ letters_in n l
 unfolding letters_in
-letters_before zero l = refl
-letters_before (suc n) [] = refl
-letters_before (suc n) (c ∷ l) = go (eqb c 32) (letters_before n l)
-  where
-    go : (t : Bool) → take (position_or_len (λ x. eqb x 32) (take n l)) (take n l) ≡ letters_in n l
-        → take (cond (not t) (1 + position_or_len (λ x. eqb x 32) (take n l)) 0) (c ∷ take n l) ≡ cond t [] (c ∷ letters_in n l)
-    go true e = refl
-    go false e = rw one-add (ap (λ (r : List ℕ). c ∷ r) e)
+six_letters zero l = refl
+six_letters (suc n) [] = refl
+six_letters (suc n) (c ∷ l) = ap (λ (r : List ℕ). cond (eqb c 32) [] (c ∷ r)) (six_letters n l)
 
--- l: the letters of a place in the lent table t, r: where their first blank stands, n: how many are the name's
-pub name_found : (t l : List ℕ) (place : ℕ) (r : Option ℕ) (n : ℕ) → t ≡ names → l ≡ take 6 (drop (place * 6) t)
-    → r ≡ cond (ltb (position_or_len (λ x. eqb x 32) l) (length l)) (Some (position_or_len (λ x. eqb x 32) l)) None → n ≡ unwrap_or r (length l)
-    → take n l ≡ name_at place
+-- of the lent table t
+pub name_first : (t l : List ℕ) (place : ℕ) (p : Page) → t ≡ names → l ≡ take 6 (drop (place * 6) t) → write_on (letters_in (6 - 0) (drop 0 l)) p ≡ write_on (name_at place) p
 unfolding name_at
-name_found t l place r n et el er en =
+name_first t l place p et el =
     let m : place * 6 ≡ 6 * place = omega arith in
     let f : l ≡ take 6 (drop (6 * place) names) = rw (el, et, m) in
-    ap (λ (k : ℕ). take k l) (en ∙ first_or_all (λ x. eqb x 32) l r er)
-    ∙ ap (λ (k : List ℕ). take (position_or_len (λ x. eqb x 32) k) k) f
-    ∙ letters_before 6 (drop (6 * place) names)
+    ap (λ (k : List ℕ). write_on k p) (ap (letters_in 6) f ∙ six_letters 6 (drop (6 * place) names))
+
+no_letters : (n : ℕ) → letters_in n [] ≡ []
+unfolding letters_in
+no_letters zero = refl
+no_letters (suc n) = refl
+
+module _ (l : List ℕ) (i : ℕ) (p : Page) where
+  pub name_more : i < 6 → i < length l → (get_or l i 0 ≡ 32 → ⊥)
+      → write_on (letters_in (6 - i) (drop i l)) p ≡ write_on (letters_in (6 - (i + 1)) (drop (i + 1) l)) (one_on (get_or l i 0) p)
+  unfolding letters_in write_on
+  name_more h q d =
+      let s : 6 - i ≡ suc (6 - (i + 1)) = omega arith in
+      let n : suc i ≡ i + 1 = omega arith in
+      rw (s, drop-cons l i 0 q, ne_eqb _ _ d, n)
+
+  pub name_blank : i < 6 → i < length l → get_or l i 0 ≡ 32 → write_on (letters_in (6 - i) (drop i l)) p ≡ p
+  unfolding letters_in write_on
+  name_blank h q d =
+      let s : 6 - i ≡ suc (6 - (i + 1)) = omega arith in
+      rw (s, drop-cons l i 0 q, eq-eqb _ _ d)
+
+  pub name_done : length l ≤ i → write_on (letters_in (6 - i) (drop i l)) p ≡ p
+  unfolding write_on
+  name_done q = rw (drop_of_length-le l {i = i} q, no_letters (6 - i))
 
 -- ---- a line, part by part
 

@@ -30,10 +30,12 @@ pub fn put_name(out: &mut [u8], from: usize, table: &[u8; 492], place: u32) -> u
     requires { table.now ≡ names }
     ensures { page out.new result ≡ write_on (name_at place) (page out.old from) }
 {
-    let letters = text::start_part(text::end_part(table, place as usize * 6), 6);
-    let n = letters
-        .iter()
-        .position(|x| *x == b' ')
-        .unwrap_or(letters.len());
-    text::put_all(out, from, text::start_part(letters, n))
+    let mut at = from;
+    for letter in text::start_part(text::end_part(table, place as usize * 6), 6) {
+        if *letter == b' ' {
+            return at;
+        }
+        at = text::put(out, at, *letter);
+    }
+    at
 }

@@ -1,13 +1,21 @@
-use Rattle.std.proofs.Common.{rules, tests}
-use Rattle.std.proofs.lemmas.Iterator.{YieldsList-from_slice}
-use Rattle.std.proofs.lemmas.Iterator.Search.{position_from_yields_List}
-use lib.Dec.{eqb}
-use Rattle.listing.proofs.Laws.{name_found}
+use Rattle.std.proofs.Common.{sym, ◌∙◌, arith, length-take}
+use Rattle.listing.proofs.Laws.{name_first, name_more, name_blank, name_done}
 use Rattle.listing.proofs.names.put_name.Goals as goal
 
+pub loop-letter-init : goal.loop-letter-init
+loop-letter-init c = (
+  name_first c.args.table.now _ _ _ c.requires (rw (c.start_part-letter-items.ensures, c.end_part.ensures)),
+  rw c.start_part-letter-items.ensures (omega (arith, length-take 6 c.end_part.result.now)),
+)
+
+pub returns-then-letter-eq32 : goal.returns-then-letter-eq32
+returns-then-letter-eq32 c = sym (name_blank _ _ _ (omega arith) c.loop-letter-test.true c.if-letter-eq32.true) ∙ c.loop-letter.invariant.0
+
+pub loop-letter-preserved : goal.loop-letter-preserved
+loop-letter-preserved c = (
+  rw c.put-at.ensures (sym (name_more _ _ _ (omega arith) c.loop-letter-test.true c.if-letter-eq32.false) ∙ c.loop-letter.invariant.0),
+  c.loop-letter.invariant.1,
+)
+
 pub returns : goal.returns
-returns c =
-    let l = c.start_part-letters.result.now in
-    let p = position_from_yields_List (λ x. eqb x 32) _ _ c.position.result c.position.ensures.ran (YieldsList-from_slice l cc) (λ x b q k. search (rules, tests)) in
-    let n = name_found c.args.table.now l c.args.place _ c.unwrap_or-n.result c.requires (rw (c.start_part-letters.ensures, c.end_part.ensures)) p c.unwrap_or-n.ensures in
-    rw (c.put_all.ensures, c.start_part.ensures, n)
+returns c = sym (name_done _ _ _ c.loop-letter-test.false) ∙ c.loop-letter.invariant.0
