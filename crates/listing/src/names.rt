@@ -1,5 +1,6 @@
 // The mnemonics, in the places of the opcode map.
 ghost use Rattle.std.specs.Prelude.{◌≡◌, ◌/◌};
+ghost use Rattle.text.specs.Digits.{glyphs};
 ghost use Rattle.text.specs.Pages.{page, write_on};
 ghost use Rattle.listing.specs.Names.{names, place_of, name_at};
 
@@ -19,19 +20,29 @@ pub fn place_of(first: u16) -> u32
     }
 }
 
-pub fn table() -> [u8; 492]
-    ensures { result ≡ names }
-{
-    NAMES
+// What lines are written by: the hex digits and the names. They are lent, since the compiler builds a table anew wherever it is named.
+#[derive(Drop)]
+pub struct Tables {
+    pub digits: [u8; 16],
+    pub letters: [u8; 492],
+    ghost all_digits: { digits ≡ glyphs },
+    ghost all_names: { letters ≡ names },
 }
 
-// The name at a place of the table, which is lent, since the compiler builds it anew wherever it is named.
-pub fn put_name(out: &mut [u8], from: usize, table: &[u8; 492], place: u32) -> usize
-    requires { table.now ≡ names }
+impl Tables {
+    pub fn new() -> Self {
+        Tables {
+            digits: text::glyph_table(),
+            letters: NAMES,
+        }
+    }
+}
+
+pub fn put_name(out: &mut [u8], from: usize, tables: &Tables, place: u32) -> usize
     ensures { page out.new result ≡ write_on (name_at place) (page out.old from) }
 {
     let mut at = from;
-    for letter in text::start_part(text::end_part(table, place as usize * 6), 6) {
+    for letter in text::start_part(text::end_part(&tables.letters, place as usize * 6), 6) {
         if *letter == b' ' {
             return at;
         }

@@ -6,7 +6,7 @@ ghost use Rattle.listing.specs.Parts.{Good, Kept};
 
 use crate::Listed;
 use crate::lines::{entry_at, put_entry, size};
-use crate::names::table;
+use crate::names::Tables;
 use word::ByteAddr;
 
 pub fn number(r: Listed) -> u32
@@ -41,18 +41,16 @@ fn put_lines(out: &mut [u8], image: &[u8], start: u32, end: usize, keep: bool) -
     ensures value { result ≡ length (listing_of image.now start end) }
     ensures kept { keep ≡ true → Kept out.new (listing_of image.now start end) out.old }
 {
-    let digits = text::glyph_table();
-    let names = table();
+    let tables = Tables::new();
     let mut total: usize = 0;
     let mut to: usize = 0;
     let mut at = start;
     while (at as usize) < end {
         let x = entry_at(image, ByteAddr(at), end);
-        let s = x.shown;
-        let after = put_entry(out, to, &digits, &names, x);
+        let after = put_entry(out, to, &tables, x);
         total += after - to;
         to = if keep { after } else { 0 };
-        at += size(s.long);
+        at += size(x.shown.long);
     }
     total
 }

@@ -4,7 +4,7 @@ use Rattle.listing.proofs.names.put_name.Goals as goal
 
 pub loop-letter-init : goal.loop-letter-init
 loop-letter-init c = (
-  name_first c.args.table.now _ _ _ c.requires (rw (c.start_part-letter-items.ensures, c.end_part.ensures)),
+  name_first c.args.tables.now.letters _ _ _ c.args.tables.now.all_names (rw (c.start_part-letter-items.ensures, c.end_part.ensures)),
   rw c.start_part-letter-items.ensures (omega (arith, length-take 6 c.end_part.result.now)),
 )
 

@@ -1,9 +1,8 @@
 use borrow.Author.Rules.{rules}
 use Rattle.listing.proofs.Ranged.{step_short, step_long, step_kept, step_fits, place_is, next_place, kept_front, none_long}
 use lib.ListN.{length}
-use mathlib.Core.Bool.{Bool, true, false, cond}
+use mathlib.Core.Bool.{cond}
 use mathlib.Core.Path.{◌≡◌, refl, ◌∙◌}
-use Prim.Native.Nat.{ℕ, ◌-◌}
 use native.Mathlib.Omega.{arith}
 use Rattle.listing.proofs.ranges.put_lines.Goals.{then-keep, else-keep}
 use Rattle.listing.proofs.ranges.put_lines.Goals as goal
