@@ -4,7 +4,6 @@
 use reading::read_full;
 use script::Reader;
 use std::io;
-use text::Read;
 
 fn write_start(rt: &impl Print, text: &[u8], n: usize) -> io::Result<()> {
     let end = word::at_most(n, text.len());
@@ -20,8 +19,8 @@ fn write_made(rt: &impl Print, text: &[u8; 256], n: usize) -> io::Result<()> {
 fn count_in(count: &[u8]) -> usize {
     let r = text::address(count);
     match r {
-        Read::Number(n) => n as usize,
-        Read::Nothing => 0,
+        Some(n) => n as usize,
+        None => 0,
     }
 }
 

@@ -1,5 +1,6 @@
 -- Laws that the functions' proofs cite: numbers read digit by digit, and a line more in a part.
 -- Assumes nothing.
+use Rattle.std.specs.Prelude.{None, Some}
 use Prim.Native.Nat.{ℕ, ◌+◌, ◌*◌, ◌^◌, ◌<◌, ◌≤◌}
 use mathlib.Core.Path.{◌≡◌, refl, sym, ap, subst, ◌∙◌}
 use mathlib.Core.Bool.{Bool, true, false, cond, ◌&&◌}
@@ -15,7 +16,6 @@ use Rattle.word.specs.declared.ByteAddr.{ByteAddr}
 use Rattle.text.specs.Digits.{value_of, pair_of}
 use Rattle.text.specs.Pages.{Page, page, write_on}
 use Rattle.text.specs.Fields.{same_of}
-use Rattle.text.specs.declared.Read.{Read}
 use Rattle.text.proofs.Pages.{written_at}
 use Rattle.listing.specs.Listing.{entry_at, size_of, line_text, listing_of}
 use Rattle.listing.specs.Lent.{is_out_of, line_of}
@@ -70,21 +70,21 @@ module _ (l : List ℕ) (i : ℕ) (h : i < length l) where
   unfolding number_in
   number_on b v d e k = rw (next, ← e, lt-ltb d b k)
 
-  pub number_stop : (b v d : ℕ) → d ≡ digit_of (get_or l i 0) → b ≤ d → number_in b v (drop i l) ≡ Read.Nothing
+  pub number_stop : (b v d : ℕ) → d ≡ digit_of (get_or l i 0) → b ≤ d → number_in b v (drop i l) ≡ None
   unfolding number_in
   number_stop b v d e k = rw (next, ← e, le-ltb d b k)
 
-pub number_none : (l : List ℕ) (i b v : ℕ) → length l ≤ i → v < 2 ^ 32 → number_in b v (drop i l) ≡ Read.Number v
+pub number_none : (l : List ℕ) (i b v : ℕ) → length l ≤ i → v < 2 ^ 32 → number_in b v (drop i l) ≡ Some v
 unfolding number_in
 number_none l i b v h k = rw (drop_of_length-le l h, lt-ltb v (2 ^ 32) k)
 
 -- a number that does not fit stays so
-pub number_over : (l : List ℕ) (b v : ℕ) → 1 ≤ b → 2 ^ 32 ≤ v → number_in b v l ≡ Read.Nothing
+pub number_over : (l : List ℕ) (b v : ℕ) → 1 ≤ b → 2 ^ 32 ≤ v → number_in b v l ≡ None
 unfolding number_in
 number_over [] b v h k = rw (le-ltb v (2 ^ 32) k)
 number_over (c ∷ l) b v h k = go (ltb (digit_of c) b) (number_over l b (v * b + digit_of c) h (omega (arith, mul-le-mul_left v h)))
   where
-    go : (t : Bool) → number_in b (v * b + digit_of c) l ≡ Read.Nothing → cond t (number_in b (v * b + digit_of c) l) Read.Nothing ≡ Read.Nothing
+    go : (t : Bool) → number_in b (v * b + digit_of c) l ≡ None → cond t (number_in b (v * b + digit_of c) l) None ≡ None
     go true e = e
     go false e = refl
 
@@ -98,7 +98,7 @@ hex_long (c ∷ []) e = absurd (go (eqb c 48) e)
     go false f = apart f
 hex_long (c ∷ d ∷ l) e = omega arith
 
-pub word_none : (l : List ℕ) (b : ℕ) → length l ≡ 0 → word_of b l ≡ Read.Nothing
+pub word_none : (l : List ℕ) (b : ℕ) → length l ≡ 0 → word_of b l ≡ None
 unfolding word_of
 word_none [] b h = refl
 word_none (c ∷ l) b h = absurd (omega arith)

@@ -16,7 +16,6 @@ use std::env::FillError;
 use std::io::{Error, ErrorKind};
 use std::rt::{Env, Files};
 use std::{fs, io, str};
-use text::Read;
 
 // What the words ask for.
 #[derive(Clone, Copy)]
@@ -37,10 +36,10 @@ fn number_at(env: &impl Env, err: &impl Print, i: usize, name: &[u8]) -> Read {
     let mut word = [0u8; 4096];
     let Ok(n) = env.arg(i, &mut word) else {
         say(err, name, b" is longer than 4096 bytes", b"");
-        return Read::Nothing;
+        return None;
     };
     let r = number(&word[..n]);
-    if let Read::Nothing = r {
+    if let None = r {
         say(
             err,
             name,
@@ -52,10 +51,10 @@ fn number_at(env: &impl Env, err: &impl Print, i: usize, name: &[u8]) -> Read {
 }
 
 fn range_asked(env: &impl Env, err: &impl Print) -> Call {
-    let Read::Number(start) = number_at(env, err, 2, b"START") else {
+    let Some(start) = number_at(env, err, 2, b"START") else {
         return Call::Bad;
     };
-    let Read::Number(end) = number_at(env, err, 3, b"END") else {
+    let Some(end) = number_at(env, err, 3, b"END") else {
         return Call::Bad;
     };
     Call::Range(start, end)

@@ -2,7 +2,6 @@
 ghost use Rattle.std.specs.Prelude.{◌≡◌, ◌≤◌};
 ghost use Rattle.manik_list.specs.Numbers.{lower_of, digit_of, is_hex, word_of, number_of};
 
-use text::Read;
 
 fn lower(c: u8) -> u8
     ensures { result ≡ lower_of c }
@@ -30,30 +29,30 @@ fn is_hex(word: &[u8]) -> bool
 }
 
 // What does not fit 32 bits is no number, however many digits follow.
-fn digits(base: u32, word: &[u8]) -> Read
+fn digits(base: u32, word: &[u8]) -> Option<u32>
     requires { (1 ≤ base) × (base ≤ 16) }
     ensures { result ≡ word_of base word.now }
 {
     if word.len() == 0 {
-        return Read::Nothing;
+        return None;
     }
     let mut v: u64 = 0;
     let mut i: usize = 0;
     while i < word.len() {
         let d = digit(word[i]);
         if base <= d {
-            return Read::Nothing;
+            return None;
         }
         v = v * base as u64 + d as u64;
         if 4294967295 < v {
-            return Read::Nothing;
+            return None;
         }
         i += 1;
     }
-    Read::Number(v as u32)
+    Some(v as u32)
 }
 
-pub fn number(word: &[u8]) -> Read
+pub fn number(word: &[u8]) -> Option<u32>
     ensures { result ≡ number_of word.now }
 {
     if is_hex(word) {

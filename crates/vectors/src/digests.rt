@@ -1,8 +1,8 @@
 // The digests of bytes, and of a step's line.
 use cpu::Entry;
 use digest::fold;
-use machine::Data;
-use trace::Seen;
+use machine::Line;
+use word::ByteAddr;
 
 pub fn wide(x: u8) -> u32 {
     x as u32
@@ -32,17 +32,17 @@ fn folded_entry(d: u64, e: Entry) -> u64 {
     }
 }
 
-fn folded_data(d: u64, a: Data) -> u64 {
+fn folded_data(d: u64, a: Option<ByteAddr>) -> u64 {
     match a {
-        Data::Nowhere => folded_word(fold(d, 0), 0),
-        Data::At(at) => folded_word(fold(d, 1), at.0),
+        None => folded_word(fold(d, 0), 0),
+        Some(at) => folded_word(fold(d, 1), at.0),
     }
 }
 
-pub fn folded_line(d: u64, s: Seen) -> u64 {
+pub fn folded_line(d: u64, s: Option<Line>) -> u64 {
     match s {
-        Seen::Nothing => d,
-        Seen::Step(line) => {
+        None => d,
+        Some(line) => {
             let pc = line.pc;
             let entry = line.entry;
             let address = line.address;
