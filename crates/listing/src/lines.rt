@@ -45,6 +45,7 @@ fn cut(end: usize, at: ByteAddr, d: Option<Decoded>) -> Option<Decoded>
     }
 }
 
+#[tactic(auto, unfolding(crate::specs::Listing::shown_of))]
 fn shown(at: ByteAddr, first: u16, d: Option<Decoded>) -> Shown
     ensures { result ≡ shown_of at first d }
 {
