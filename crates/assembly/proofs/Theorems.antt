@@ -22,6 +22,7 @@ use Rattle.forms.specs.Says.{bytes_in}
 use Rattle.asm.specs.Assemble.{address_of, line_value, line_bits, is_set, labels_of, reply_of, line_of, end_of, line_check, room_check, value_in, line_bytes, is_outside, text_labels, Answered, answered, verdict_in, assembled_of}
 use Rattle.forms.specs.declared.What.{What}
 use Rattle.asm.specs.declared.Refusal.{Refusal}
+use Rattle.expr.proofs.Laws.{got_same}
 use Rattle.asm.specs.declared.Assembled.{Assembled}
 use Rattle.assembly.specs.Assembly.{Says, faults_of, Lowest, AllFine, Told, text_code, first_at}
 use Rattle.assembly.proofs.Values.{in_32_bits}
@@ -42,6 +43,7 @@ module _ (t : Labels) (s : List ℕ) (a : ByteAddr) (y : Result Unit Refusal) (w
   pub line_says : (z : ℤ) (n : ℕ) → line_value t (shape_of w) (body_of l) ≡ Ok (Value.Is z, n) → Says w a (body_of l) z (line_bits w a (body_of l) z)
   line_says z n e =
       let v = f.valued in
+      let p = (got_same (Value.Is f.value) (Value.Is z) f.read n (sym v ∙ e)).0 in
       let q : f.value ≡ z = cc in
       bits_say w a (body_of l) z (in_32_bits t (shape_of w) (body_of l) z n e) (rw q at f.fits)
 
