@@ -1,6 +1,8 @@
 -- Laws that the functions' proofs cite.
 -- Assumes nothing.
-use Rattle.std.specs.Prelude.{Err, Ok, Result}
+use Rattle.std.specs.Prelude.{Err, Ok, Result, Option, Some, None, find, map}
+use Rattle.std.specs.Option.{option_map, is_some, ok_or}
+use Prim.Native.Nat.compare.{suc-suc}
 use Prim.Native.Nat.{ℕ, suc, ◌+◌, ◌%◌, ◌<◌, ◌≤◌}
 use mathlib.Core.Path.{◌≡◌, refl, sym, ap, ap₂, ◌∙◌}
 use mathlib.Core.Bool.{Bool, true, false, cond, not, ◌&&◌, ◌||◌}
@@ -9,13 +11,15 @@ use native.Mathlib.Nat.{le_refl}
 use native.Mathlib.Numerals.{add-one}
 use native.Mathlib.Omega.{arith}
 use lib.Dec.{eqb, ltb}
-use lib.ListN.{length, take, drop, set, length-set, drop_of_length-le}
+use lib.ListN.{length, take, drop, set, drop_of_length-le}
 use lib.Seq.{take-suc, length-take-le, take-set-le, lt-length-set, get_or-set_same}
-use borrow.Author.Tests.{ltb-true, ltb-false}
+use borrow.Author.Tests.{ltb-true, ltb-false, lt-ltb, eq-eqb, ne_eqb}
 use Rattle.word.specs.Addresses.{byte_sum}
 use Rattle.word.specs.declared.ByteAddr.{ByteAddr}
-use Rattle.expr.specs.Expr.{Labels, labels, value_of}
-use Rattle.expr.specs.declared.Read.{Read as Valued}
+use Rattle.isa.specs.declared.Encoded.{Encoded}
+use Rattle.expr.specs.Expr.{Labels, labels, labels_in, names, found, index_of, value_of}
+use Rattle.expr.specs.declared.Entry.{Entry}
+use Rattle.expr.specs.Expr.{Read as Valued}
 use Rattle.expr.specs.declared.Value.{Value}
 use Rattle.text.specs.Pages.{Page, write_on}
 use Rattle.text.proofs.Pages.{write_append}
@@ -23,8 +27,8 @@ use Rattle.forms.specs.declared.Sort.{Sort}
 use Rattle.forms.specs.declared.What.{What}
 use Rattle.asm.specs.declared.Refusal.{Refusal}
 use Rattle.asm.specs.declared.Assembled.{Assembled}
-use Rattle.forms.specs.Form.{body_of, field_at, lines_of, what_in, shape_of, is_known_as, is_known}
-use Rattle.asm.specs.Parts.{takes_sum, check_by, all_known, check_sure}
+use Rattle.forms.specs.Form.{body_of, lines_of, what_in, shape_of, is_known_as, is_known}
+use Rattle.asm.specs.Parts.{takes_sum, all_known, check_sure}
 use Rattle.asm.specs.Assemble.{is_set, has_room, is_new, with_name, with_label, label_for, bytes_for, labels_of, address_of, label_in, sum_at, line_value, line_bits, before, refused_if, label_check, fit_check, value_check, line_check, room_check, verdict_of, line_bytes, code_of, is_outside}
 
 -- ---- a line by its fields
@@ -38,62 +42,97 @@ sum_by t Sort.Sfr f o = refl
 sum_by t Sort.LowSfr f o = refl
 sum_by t Sort.Sum f o = refl
 
-pub check_by_lem : (w : What) (a : ByteAddr) (b : List ℕ) (l r : Result Unit Refusal) (v : Valued)
-    → check_by w (shape_of w) a (field_at 2 b) (field_at 3 b) (field_at 4 b) l r v ≡ value_check w a b l r v
-unfolding check_by value_check line_bits
-check_by_lem w a b l r (Valued.Not e) = refl
-check_by_lem w a b l r (Valued.Got Value.Unknown n) = refl
-check_by_lem w a b l r (Valued.Got Value.Large n) = refl
-check_by_lem w a b l r (Valued.Got (Value.Is z) n) = refl
-
 -- ---- labels: one more after the first n
 
 and_right : (a b : Bool) → (a && b) ≡ true → b ≡ true
 and_right true b e = e
 and_right false b e = let z : ◌≡◌ {A = ℕ} 0 1 = cc in absurd (omega arith)
 
-new_room : (s : List ℕ) (k : ℕ) → is_new s k ≡ true → length s < 256
-new_room s k e = ltb-true (length s) 256 (and_right (not (eqb k 0) && not (is_set s k)) (has_room s) e)
+-- the entries' names, and one of them looked for
+pub names_length : (l : List Entry) → length (names l) ≡ length l
+names_length [] = refl
+names_length (x ∷ l) = ap suc (names_length l)
 
-one_more : (l : List ℕ) (n x : ℕ) → n < length l → take (n + 1) (set l n x) ≡ take n l ++ (x ∷ [])
+pub found_set : (l : List Entry) (k : ℕ) → is_some (found l k) ≡ is_set (names l) k
+unfolding index_of
+found_set [] k = refl
+found_set (x ∷ l) k = go (eqb x.name k) (found_set l k)
+  where
+    go : (t : Bool) → is_some (found l k) ≡ is_set (names l) k
+        → is_some (option_map (λ (y : Entry). y.place) (cond t (Some x) (find (λ (y : Entry). eqb y.name k) l))) ≡ ltb (cond t 0 (suc (index_of (names l) k))) (suc (length (names l)))
+    go true h = sym (lt-ltb 0 (suc (length (names l))) (omega arith))
+    go false h = rw suc-suc h
+
+map_push : (f : Entry → ℕ) (l : List Entry) (x : Entry) → map f (l ++ (x ∷ [])) ≡ map f l ++ (f x ∷ [])
+map_push f [] x = refl
+map_push f (y ∷ l) x = ap (λ (s : List ℕ). f y ∷ s) (map_push f l x)
+
+labels_push : (l : List Entry) (x : Entry) → labels_in (l ++ (x ∷ [])) ≡ labels (names l ++ (x.name ∷ [])) ((labels_in l).places ++ (x.place ∷ []))
+labels_push l x = ap₂ labels (map_push (λ (y : Entry). y.name) l x) (map_push (λ (y : Entry). y.place) l x)
+
+one_more : (l : List Entry) (n : ℕ) (x : Entry) → n < length l → take (n + 1) (set l n x) ≡ take n l ++ (x ∷ [])
 one_more l n x h =
     ap (λ (i : ℕ). take i (set l n x)) (add-one n)
-    ∙ take-suc (set l n x) n 0 (lt-length-set l n x h)
-    ∙ ap₂ (λ (a : List ℕ) (b : ℕ). a ++ (b ∷ [])) (take-set-le n l n x (le_refl n)) (get_or-set_same l n x 0 h)
+    ∙ take-suc (set l n x) n x (lt-length-set l n x h)
+    ∙ ap₂ (λ (a : List Entry) (b : Entry). a ++ (b ∷ [])) (take-set-le n l n x (le_refl n)) (get_or-set_same l n x x h)
 
-module _ (l : List ℕ) (n k : ℕ) (q : length l ≡ 256) (h : n ≤ 256) where
-  pub whole_names : n ≡ length (take n l)
-  whole_names = sym (length-take-le n l (omega arith))
+-- a table with the first n of 256 entries, and one label more
+module _ (l : List Entry) (n k : ℕ) (a : ByteAddr) (q : length l ≡ 256) (h : n ≤ 256) where
+  pub has_place : is_new (names (take n l)) k ≡ true → n < 256
+  has_place t =
+      let r = ltb-true (length (names (take n l))) 256 (and_right (not (eqb k 0) && not (is_set (names (take n l)) k)) (has_room (names (take n l))) t) in
+      let e : length (take n l) ≡ n = length-take-le n l (omega arith) in
+      omega (arith, names_length (take n l))
 
-  module _ (t : is_new (take n l) k ≡ true) where
-    pub has_place : n < length l
-    has_place = let e = whole_names in let r = new_room (take n l) k t in omega arith
+  pub added : is_new (names (take n l)) k ≡ true → labels_in (take (n + 1) (set l n (record { name = k; place = a.0 }))) ≡ with_label (labels_in (take n l)) k a
+  unfolding with_label
+  added t =
+      let p : n < length l = (let r = has_place t in omega arith) in
+      rw (t, one_more l n (record { name = k; place = a.0 }) p) (labels_push (take n l) (record { name = k; place = a.0 }))
 
-    pub fewer : n + 1 ≤ 256
-    fewer = let e = has_place in omega arith
+pub kept : (t : Labels) (k : ℕ) (a : ByteAddr) → is_new t.keys k ≡ false → t ≡ with_label t k a
+unfolding with_label
+kept t k a e = rw e
 
-    pub same_size : (x : ℕ) → length (set l n x) ≡ 256
-    same_size x = length-set l n x ∙ q
+pub keys_with : (t : Labels) (k : ℕ) (a : ByteAddr) → (with_label t k a).keys ≡ with_name t.keys k
+unfolding with_label with_name
+keys_with t k a = go (is_new t.keys k)
+  where
+    go : (b : Bool) → (cond b (labels (t.keys ++ (k ∷ [])) (t.places ++ (a.0 ∷ []))) t).keys ≡ cond b (t.keys ++ (k ∷ [])) t.keys
+    go true = refl
+    go false = refl
 
-    pub more_names : take (n + 1) (set l n k) ≡ with_name (take n l) k
-    unfolding with_name
-    more_names = rw t (one_more l n k has_place)
+-- whether a label is new, by the code's tests
+module _ (l : List Entry) (k : ℕ) where
+  pub new_zero : k ≡ 0 → false ≡ is_new (names l) k
+  new_zero e = rw (eq-eqb _ _ e)
 
-    pub more_labels : (m : List ℕ) (a : ByteAddr) → length m ≡ 256
-        → labels (take (n + 1) (set l n k)) (take (n + 1) (set m n a.0)) ≡ with_label (labels (take n l) (take n m)) k a
-    unfolding with_label
-    more_labels m a e =
-        let p : n < length m = let g = has_place in omega arith in
-        rw t (ap₂ labels (one_more l n k has_place) (one_more m n a.0 p))
+  module _ (f : k ≡ 0 → ⊥) (b : Bool) (e : is_some (found l k) ≡ not b) where
+    none_set : b ≡ not (is_set (names l) k)
+    none_set = go b e
+      where
+        go : (t : Bool) → is_some (found l k) ≡ not t → t ≡ not (is_set (names l) k)
+        go true h = sym (ap not (sym (found_set l k) ∙ h))
+        go false h = sym (ap not (sym (found_set l k) ∙ h))
 
-  module _ (t : is_new (take n l) k ≡ false) where
-    pub same_names : take n l ≡ with_name (take n l) k
-    unfolding with_name
-    same_names = rw t
+    pub new_there : b ≡ true → ltb (length l) 256 ≡ is_new (names l) k
+    new_there t = rw (ne_eqb _ _ f, sym none_set ∙ t, names_length l)
 
-    pub same_labels : (m : List ℕ) (a : ByteAddr) → labels (take n l) (take n m) ≡ with_label (labels (take n l) (take n m)) k a
-    unfolding with_label
-    same_labels m a = rw t
+    pub new_set : b ≡ false → false ≡ is_new (names l) k
+    new_set t = rw (ne_eqb _ _ f, sym none_set ∙ t)
+
+-- bits that fit, and what lacks them
+pub or_none : (o : Option Encoded) (r x : Refusal) → ◌≡◌ {A = Result Encoded Refusal} (ok_or o r) (Err x) → (o ≡ None) × (x ≡ r)
+or_none None r x h = (refl, cc)
+or_none (Some e) r x h = let z : ◌≡◌ {A = ℕ} 0 1 = cc in absurd (omega arith)
+
+pub or_some : (o : Option Encoded) (r : Refusal) (e : Encoded) → ◌≡◌ {A = Result Encoded Refusal} (ok_or o r) (Ok e) → o ≡ Some e
+or_some None r e h = let z : ◌≡◌ {A = ℕ} 0 1 = cc in absurd (omega arith)
+or_some (Some d) r e h = cc
+
+pub fit_some : (e : Encoded) (y : Result Unit Refusal) → before (fit_check (Some e)) y ≡ y
+fit_some (Encoded.Half h) y = refl
+fit_some (Encoded.Pair h s) y = refl
 
 -- one line further in each pass, by what the calls of a loop's round say
 
@@ -133,10 +172,10 @@ fine_before (Err q) r e = let n : ◌≡◌ {A = ℕ} 0 1 = cc in absurd (omega 
 
 fine_value : (w : What) (a : ByteAddr) (b : List ℕ) (x y : Result Unit Refusal) (v : Valued) → value_check w a b x y v ≡ (Ok tt) → y ≡ (Ok tt)
 unfolding value_check
-fine_value w a b x y (Valued.Not e) q = let n : ◌≡◌ {A = ℕ} 0 1 = cc in absurd (omega arith)
-fine_value w a b x y (Valued.Got Value.Unknown n) q = let n : ◌≡◌ {A = ℕ} 0 1 = cc in absurd (omega arith)
-fine_value w a b x y (Valued.Got Value.Large n) q = absurd (fine_before x Refusal.Value q)
-fine_value w a b x y (Valued.Got (Value.Is z) n) q = fine_last x (fit_check (line_bits w a b z)) y q
+fine_value w a b x y (Err e) q = let n : ◌≡◌ {A = ℕ} 0 1 = cc in absurd (omega arith)
+fine_value w a b x y (Ok (Value.Unknown, n)) q = let n : ◌≡◌ {A = ℕ} 0 1 = cc in absurd (omega arith)
+fine_value w a b x y (Ok (Value.Large, n)) q = absurd (fine_before x Refusal.Value q)
+fine_value w a b x y (Ok (Value.Is z, n)) q = fine_last x (fit_check (line_bits w a b z)) y q
 
 pub fine_room : (t : Labels) (s : List ℕ) (a : ByteAddr) (p n m : ℕ) (w : What) (l : List ℕ)
     → line_check t s a (room_check p n m) w l ≡ (Ok tt) → p + n ≤ m

@@ -7,7 +7,7 @@ use Rattle.word.specs.declared.ByteAddr.{ByteAddr}
 use Rattle.isa.specs.declared.Encoded.{Encoded}
 use Rattle.text.specs.Pages.{page, write_on}
 use Rattle.expr.specs.Expr.{Labels, labels, none, index_of, value_of}
-use Rattle.expr.specs.declared.Read.{Read as Valued}
+use Rattle.expr.specs.Expr.{Read as Valued}
 use Rattle.expr.specs.declared.Value.{Value}
 use Rattle.forms.specs.Form.{lines_of, body_of, field_at, named, what_in, shape_of, number_at, is_known_as, is_known}
 use Rattle.forms.specs.Says.{bits_of, bits_at, bytes_in}
@@ -24,7 +24,7 @@ abbrev pub address_of : ℕ → ByteAddr
 address_of p = record { 0 = wrap p }
 
 abbrev pub zero_read : Valued
-zero_read = Valued.Got (Value.Is (pos 0)) 0
+zero_read = Ok (Value.Is (pos 0), 0)
 
 -- the value of the expression among a line's operands, 0 where there is none
 unfoldable pub sum_at : Labels → Sort → List ℕ → Valued → Valued
@@ -122,10 +122,10 @@ fit_check None = Err Refusal.Value
 
 -- "31 ninth parenthesis, 32 unknown label", then those of the line's own label, then 35, and "36 no room in the image": x is of its own label, y of its room
 unfoldable pub value_check : What → ByteAddr → List ℕ → Result Unit Refusal → Result Unit Refusal → Valued → Result Unit Refusal
-value_check w a b x y (Valued.Not e) = Err Refusal.Deep
-value_check w a b x y (Valued.Got Value.Unknown n) = Err Refusal.Label
-value_check w a b x y (Valued.Got Value.Large n) = before x (Err Refusal.Value)
-value_check w a b x y (Valued.Got (Value.Is z) n) = before x (before (fit_check (line_bits w a b z)) y)
+value_check w a b x y (Err e) = Err Refusal.Deep
+value_check w a b x y (Ok (Value.Unknown, n)) = Err Refusal.Label
+value_check w a b x y (Ok (Value.Large, n)) = before x (Err Refusal.Value)
+value_check w a b x y (Ok (Value.Is z, n)) = before x (before (fit_check (line_bits w a b z)) y)
 
 -- a line at a that names w: t all labels, s the names of those set before it, y the check of its room; "30 unknown form" comes first
 unfoldable pub line_check : Labels → List ℕ → ByteAddr → Result Unit Refusal → What → List ℕ → Result Unit Refusal
@@ -151,10 +151,10 @@ verdict_of t s p n i (l ∷ r) =
 
 -- a value; 0 for what has none
 unfoldable pub value_in : Valued → ℤ
-value_in (Valued.Got (Value.Is z) n) = z
-value_in (Valued.Got Value.Large n) = pos 0
-value_in (Valued.Got Value.Unknown n) = pos 0
-value_in (Valued.Not e) = pos 0
+value_in (Ok (Value.Is z, n)) = z
+value_in (Ok (Value.Large, n)) = pos 0
+value_in (Ok (Value.Unknown, n)) = pos 0
+value_in (Err e) = pos 0
 
 -- the bytes of a line at a that names w, and of lines from a on; none of them refused
 unfoldable pub line_bytes : Labels → ByteAddr → What → List ℕ → List ℕ

@@ -23,7 +23,7 @@ use Rattle.isa.specs.declared.Decoded.{Decoded}
 use Rattle.isa.specs.declared.Encoded.{Encoded}
 use Rattle.isa.proofs.Theorems.{bits_decode}
 use Rattle.expr.specs.Expr.{Labels}
-use Rattle.expr.specs.declared.Read.{Read as Valued}
+use Rattle.expr.specs.Expr.{Read as Valued}
 use Rattle.expr.specs.declared.Value.{Value}
 use Rattle.forms.specs.Form.{body_of, kind_shape, shape_of, is_known_as}
 use Rattle.forms.specs.Says.{bits_of, halves_to, words_to, scaled, says_of, bits_said, bits_at, bytes_in}
@@ -124,7 +124,7 @@ pub record Fine (t : Labels) (s : List ℕ) (a : ByteAddr) (y : Result Unit Refu
   pub known : is_known_as w l ≡ true
   pub value : ℤ
   pub read : ℕ
-  pub valued : line_value t (shape_of w) (body_of l) ≡ Valued.Got (Value.Is value) read
+  pub valued : line_value t (shape_of w) (body_of l) ≡ Ok (Value.Is value, read)
   pub label : label_check s (label_in l) ≡ (Ok tt)
   pub fits : fit_check (line_bits w a (body_of l) value) ≡ (Ok tt)
   pub room : y ≡ (Ok tt)
@@ -137,12 +137,12 @@ module _ (t : Labels) (s : List ℕ) (a : ByteAddr) (y : Result Unit Refusal) (w
   by_value : is_known_as w l ≡ true → (v : Valued) → line_value t (shape_of w) (body_of l) ≡ v
       → value_check w a (body_of l) (label_check s (label_in l)) y v ≡ (Ok tt) → Fine t s a y w l
   unfolding value_check
-  by_value k (Valued.Not e) p q = let z : ◌≡◌ {A = ℕ} 0 1 = cc in absurd (omega arith)
-  by_value k (Valued.Got Value.Unknown n) p q = let z : ◌≡◌ {A = ℕ} 0 1 = cc in absurd (omega arith)
-  by_value k (Valued.Got Value.Large n) p q =
+  by_value k (Err e) p q = let z : ◌≡◌ {A = ℕ} 0 1 = cc in absurd (omega arith)
+  by_value k (Ok (Value.Unknown, n)) p q = let z : ◌≡◌ {A = ℕ} 0 1 = cc in absurd (omega arith)
+  by_value k (Ok (Value.Large, n)) p q =
       let b = (fine_both (label_check s (label_in l)) (Err Refusal.Value) q).1 in
       let z : ◌≡◌ {A = ℕ} 0 1 = cc in absurd (omega arith)
-  by_value k (Valued.Got (Value.Is z) n) p q =
+  by_value k (Ok (Value.Is z, n)) p q =
       let b = fine_both (label_check s (label_in l)) _ q in
       let c = fine_both (fit_check (line_bits w a (body_of l) z)) y b.1 in
       record { known = k; value = z; read = n; valued = p; label = b.0; fits = c.0; room = c.1 }

@@ -15,13 +15,14 @@ use Rattle.text.specs.Pages.{Page}
 use Rattle.text.proofs.Pages.{written_at}
 use Rattle.expr.specs.Expr.{Labels, none, meaning}
 use Rattle.expr.specs.Value.{signed_word}
-use Rattle.expr.specs.declared.Read.{Read as Valued}
+use Rattle.expr.specs.Expr.{Read as Valued}
 use Rattle.expr.specs.declared.Value.{Value}
 use Rattle.forms.specs.Form.{lines_of, body_of, shape_of, is_known_as}
 use Rattle.forms.specs.Says.{bytes_in}
 use Rattle.asm.specs.Assemble.{address_of, line_value, line_bits, is_set, labels_of, reply_of, line_of, end_of, line_check, room_check, value_in, line_bytes, is_outside, text_labels, Answered, answered, verdict_in, assembled_of}
 use Rattle.forms.specs.declared.What.{What}
 use Rattle.asm.specs.declared.Refusal.{Refusal}
+use Rattle.expr.proofs.Laws.{got_same}
 use Rattle.asm.specs.declared.Assembled.{Assembled}
 use Rattle.assembly.specs.Assembly.{Says, faults_of, Lowest, AllFine, Told, text_code, first_at}
 use Rattle.assembly.proofs.Values.{in_32_bits}
@@ -35,18 +36,19 @@ module _ (t : Labels) (s : List ℕ) (a : ByteAddr) (y : Result Unit Refusal) (w
   f : Fine t s a y w l
   f = fine t s a y w l ok
 
-  pub line_has_value : (z : ℤ) × (n : ℕ) × line_value t (shape_of w) (body_of l) ≡ Valued.Got (Value.Is z) n
+  pub line_has_value : (z : ℤ) × (n : ℕ) × line_value t (shape_of w) (body_of l) ≡ Ok (Value.Is z, n)
   line_has_value = (f.value, f.read, f.valued)
 
   -- .. and bits that say what it says with that value: they decode to its instruction, or are its value, big-endian ..
-  pub line_says : (z : ℤ) (n : ℕ) → line_value t (shape_of w) (body_of l) ≡ Valued.Got (Value.Is z) n → Says w a (body_of l) z (line_bits w a (body_of l) z)
+  pub line_says : (z : ℤ) (n : ℕ) → line_value t (shape_of w) (body_of l) ≡ Ok (Value.Is z, n) → Says w a (body_of l) z (line_bits w a (body_of l) z)
   line_says z n e =
       let v = f.valued in
+      let p = (got_same (Value.Is f.value) (Value.Is z) f.read n (sym v ∙ e)).0 in
       let q : f.value ≡ z = cc in
       bits_say w a (body_of l) z (in_32_bits t (shape_of w) (body_of l) z n e) (rw q at f.fits)
 
   -- .. these are its bytes ..
-  pub line_bytes_lem : (z : ℤ) (n : ℕ) → line_value t (shape_of w) (body_of l) ≡ Valued.Got (Value.Is z) n → line_bytes t a w l ≡ bytes_in (line_bits w a (body_of l) z)
+  pub line_bytes_lem : (z : ℤ) (n : ℕ) → line_value t (shape_of w) (body_of l) ≡ Ok (Value.Is z, n) → line_bytes t a w l ≡ bytes_in (line_bits w a (body_of l) z)
   unfolding line_bytes value_in
   line_bytes_lem z n e = rw e
 

@@ -8,7 +8,7 @@ use Rattle.isa.specs.declared.Kind.{Kind}
 use Rattle.isa.specs.declared.Decoded.{Decoded}
 use Rattle.isa.specs.declared.Encoded.{Encoded}
 use Rattle.expr.specs.Expr.{Labels, index_of}
-use Rattle.expr.specs.declared.Read.{Read as Valued}
+use Rattle.expr.specs.Expr.{Read as Valued}
 use Rattle.expr.specs.declared.Value.{Value}
 use Rattle.forms.specs.Form.{lines_of, body_of, field_at, what_in, kind_shape, shape_of, number_at, is_known_as, is_known}
 use Rattle.forms.specs.Says.{bits_of, says_of, bytes_in}
@@ -39,20 +39,20 @@ Says What.Word a b z x =
 -- ---- a line's faults
 
 abbrev pub is_deep : Valued → Bool
-is_deep (Valued.Not e) = true
-is_deep (Valued.Got v n) = false
+is_deep (Err e) = true
+is_deep (Ok (v, n)) = false
 
 abbrev pub is_unknown : Valued → Bool
-is_unknown (Valued.Not e) = false
-is_unknown (Valued.Got Value.Unknown n) = true
-is_unknown (Valued.Got Value.Large n) = false
-is_unknown (Valued.Got (Value.Is z) n) = false
+is_unknown (Err e) = false
+is_unknown (Ok (Value.Unknown, n)) = true
+is_unknown (Ok (Value.Large, n)) = false
+is_unknown (Ok (Value.Is z, n)) = false
 
 abbrev pub is_unfit : What → ByteAddr → List ℕ → Valued → Bool
-is_unfit w a b (Valued.Not e) = false
-is_unfit w a b (Valued.Got Value.Unknown n) = false
-is_unfit w a b (Valued.Got Value.Large n) = true
-is_unfit w a b (Valued.Got (Value.Is z) n) = not (has_bits (line_bits w a b z))
+is_unfit w a b (Err e) = false
+is_unfit w a b (Ok (Value.Unknown, n)) = false
+is_unfit w a b (Ok (Value.Large, n)) = true
+is_unfit w a b (Ok (Value.Is z, n)) = not (has_bits (line_bits w a b z))
 
 -- whether a line at a that names w has the fault that a refusal tells, whatever others it has: t all labels, s the names of those set before it,
 -- n bytes from p on wanted of m; no line has that of the start

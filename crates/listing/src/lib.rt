@@ -58,6 +58,6 @@ pub struct Line {
 // The image is over the size limit or the range is outside it, odd or reversed; the listing is longer than the buffer.
 #[derive(Clone, Copy, Debug, PartialEq, Eq)]
 pub enum Refusal {
-    OutOfImage,
-    NoRoom,
+    OutOfImage = 20,
+    NoRoom = 21,
 }

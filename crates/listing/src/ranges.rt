@@ -4,54 +4,30 @@ ghost use Rattle.listing.specs.Listing.{listing_of};
 ghost use Rattle.listing.specs.Lent.{is_out_of, number_of, length_of, answered, listed_of};
 ghost use Rattle.listing.specs.Parts.{Good, Kept};
 
-use crate::lines::{entry_at, put_entry, size};
-use crate::names::table;
-use word::ByteAddr;
 use crate::Refusal;
+use crate::lines::{entry_at, put_entry, size};
+use crate::names::Tables;
+use word::ByteAddr;
 
 pub fn number(r: Result<usize, Refusal>) -> u32
     ensures { result ≡ number_of r }
 {
     match r {
         Ok(_) => 0,
-        Err(Refusal::OutOfImage) => 20,
-        Err(Refusal::NoRoom) => 21,
+        Err(e) => e as u32,
     }
 }
 
 pub fn length(r: Result<usize, Refusal>) -> usize
     ensures { result ≡ length_of r }
 {
-    match r {
-        Ok(n) => n,
-        Err(Refusal::OutOfImage) => 0,
-        Err(Refusal::NoRoom) => 0,
-    }
+    r.unwrap_or(0)
 }
 
 fn is_out_of(length: usize, start: usize, end: usize) -> bool
     ensures { result ≡ is_out_of length start end }
 {
-    if 65536 < length {
-        return true;
-    }
-    if start % 2 == 1 {
-        return true;
-    }
-    if end % 2 == 1 {
-        return true;
-    }
-    if end < start {
-        return true;
-    }
-    length < end
-}
-
-// The place after a line, or the first place again.
-fn place_after(keep: bool, place: usize) -> usize
-    ensures { result ≡ cond keep place 0 }
-{
-    if keep { place } else { 0 }
+    65536 < length || start % 2 == 1 || end % 2 == 1 || end < start || length < end
 }
 
 // The lines of a range and their length. Kept lines stand one after the other, others each over the one before it.
@@ -60,18 +36,16 @@ fn put_lines(out: &mut [u8], image: &[u8], start: u32, end: usize, keep: bool) -
     ensures value { result ≡ length (listing_of image.now start end) }
     ensures kept { keep ≡ true → Kept out.new (listing_of image.now start end) out.old }
 {
-    let digits = text::glyph_table();
-    let names = table();
+    let tables = Tables::new();
     let mut total: usize = 0;
     let mut to: usize = 0;
     let mut at = start;
     while (at as usize) < end {
         let x = entry_at(image, ByteAddr(at), end);
-        let s = x.shown;
-        let after = put_entry(out, to, &digits, &names, x);
+        let after = put_entry(out, to, &tables, x);
         total += after - to;
-        to = place_after(keep, after);
-        at += size(s.long);
+        to = if keep { after } else { 0 };
+        at += size(x.shown.long);
     }
     total
 }

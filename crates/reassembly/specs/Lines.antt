@@ -1,6 +1,6 @@
 -- Words that the theorems on a listing that is assembled again are stated in (proofs/Theorems.antt has the statements).
 -- Assumes nothing.
-use Rattle.std.specs.Prelude.{ℕ, ◌/◌, ◌≡◌, cond, List, [], ◌∷◌, ◌++◌, eqb, ℤ, Option, Some}
+use Rattle.std.specs.Prelude.{ℕ, ◌/◌, ◌≡◌, cond, List, [], ◌∷◌, ◌++◌, eqb, ℤ, Option, Some, Ok}
 use Rattle.word.specs.declared.ByteAddr.{ByteAddr}
 use Rattle.isa.specs.Codes.{kind_of}
 use Rattle.isa.specs.declared.Encoded.{Encoded}
@@ -11,7 +11,7 @@ use Rattle.listing.specs.declared.Row.{Row}
 use Rattle.listing.specs.declared.Entry.{Entry}
 use Rattle.columns.specs.Columns.{joined}
 use Rattle.expr.specs.Expr.{Labels}
-use Rattle.expr.specs.declared.Read.{Read as Valued}
+use Rattle.expr.specs.Expr.{Read as Valued}
 use Rattle.expr.specs.declared.Value.{Value}
 use Rattle.forms.specs.Form.{body_of, what_in, shape_of}
 use Rattle.forms.specs.Says.{bits_of}
@@ -50,7 +50,7 @@ bits_listed x = cond x.shown.long (Some (Encoded.Pair x.first x.second)) (Some (
 pub record Read (t : Labels) (a : ByteAddr) (l : List ℕ) (v : ℕ) (x : Option Encoded) : Type 0 where
   pub value : ℤ
   pub size : ℕ
-  pub valued : line_value t (shape_of (what_in l)) (body_of l) ≡ Valued.Got (Value.Is value) size
+  pub valued : line_value t (shape_of (what_in l)) (body_of l) ≡ Ok (Value.Is value, size)
   pub number : bits_of value ≡ v
   pub bits : line_bits (what_in l) a (body_of l) value ≡ x
 

@@ -1,6 +1,6 @@
 -- What a field of an operand's sort writes.
 -- Assumes nothing.
-use Rattle.std.specs.Prelude.{None, Option, Some, ℕ}
+use Rattle.std.specs.Prelude.{None, Option, Some, ℕ, Ok, Err}
 use Prim.Native.Nat.{ℕ, suc, ◌+◌, ◌*◌, ◌-◌, ◌/◌, ◌%◌, ◌^◌, ◌<◌, ◌≤◌}
 use mathlib.Core.Logic.{◌⊎◌, inl, inr}
 use mathlib.Core.Path.{◌≡◌, refl, sym, ap, ap₂, subst, ◌∙◌}
@@ -20,7 +20,7 @@ use Rattle.text.proofs.Theorems.{decimal_more, decimal_one, decimal_reads}
 use Rattle.listing.specs.Listing.{operand_text, tab}
 use Rattle.listing.specs.declared.Operand.{Operand}
 use Rattle.expr.specs.Expr.{Labels, sum_of, value_of, is_whole, is_sum}
-use Rattle.expr.specs.declared.Read.{Read as Valued}
+use Rattle.expr.specs.Expr.{Read as Valued}
 use Rattle.expr.specs.declared.Value.{Value}
 use Rattle.expr.specs.declared.Fault.{Fault}
 use Rattle.expr.proofs.Theorems.{only_depth}
@@ -152,12 +152,12 @@ sfr_text n f low e = ap tab (numbered_text (ascii "sfr") n f low (ltb-true _ _ e
 -- ---- expressions
 
 -- one that has a value is read whole
-whole_field : (f : List ℕ) (z : ℤ) (n : ℕ) (r : Valued) → (r ≡ Valued.Not Fault.Deep) ⊎ (is_whole f r ≡ true) → r ≡ Valued.Got (Value.Is z) n → n ≡ length f
+whole_field : (f : List ℕ) (z : ℤ) (n : ℕ) (r : Valued) → (r ≡ Err Fault.Deep) ⊎ (is_whole f r ≡ true) → r ≡ Ok (Value.Is z, n) → n ≡ length f
 unfolding is_whole
 whole_field f z n r (inl d) e = let z : ◌≡◌ {A = ℕ} 0 1 = cc in absurd (omega arith)
 whole_field f z n r (inr w) e = eqb-true n (length f) (subst (λ (x : Valued). is_whole f x ≡ true) e w)
 
-sum_writes : (t : Labels) (f : List ℕ) (z : ℤ) (n : ℕ) → is_sum f ≡ true → value_of t f ≡ Valued.Got (Value.Is z) n → Writes t (Operand.Number (bits_of z)) f
+sum_writes : (t : Labels) (f : List ℕ) (z : ℤ) (n : ℕ) → is_sum f ≡ true → value_of t f ≡ Ok (Value.Is z, n) → Writes t (Operand.Number (bits_of z)) f
 unfolding value_of
 sum_writes t f z n s e =
     let w = value_word t f z n e in
@@ -176,7 +176,7 @@ operand_by Sort.Sum f v = Operand.Number v
 
 -- the value is that of the field, where it is an expression
 pub operand_writes : (t : Labels) (z : ℤ) (n : ℕ) (s : Sort) (f : List ℕ) → fields_of s ≡ 1 → is_of s f ≡ true
-    → sum_at t s f (Valued.Got (Value.Is z) n) ≡ Valued.Got (Value.Is z) n → Writes t (operand_by s f (bits_of z)) f
+    → sum_at t s f (Ok (Value.Is z, n)) ≡ Ok (Value.Is z, n) → Writes t (operand_by s f (bits_of z)) f
 unfolding is_of number_at sum_at
 operand_writes t z n Sort.Nothing f o h e = absurd (omega arith)
 operand_writes t z n Sort.Never f o h e = absurd (omega arith)

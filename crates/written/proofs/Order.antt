@@ -13,7 +13,7 @@ use Rattle.word.specs.declared.ByteAddr.{ByteAddr}
 use Rattle.isa.specs.Statements.{has_bits}
 use Rattle.isa.specs.declared.Encoded.{Encoded}
 use Rattle.expr.specs.Expr.{Labels}
-use Rattle.expr.specs.declared.Read.{Read as Valued}
+use Rattle.expr.specs.Expr.{Read as Valued}
 use Rattle.expr.specs.declared.Value.{Value}
 use Rattle.forms.specs.Form.{body_of, what_in, shape_of, is_known}
 use Rattle.asm.specs.Assemble.{address_of, line_bits, is_set, has_room, number_of, before, refused_if, label_check, fit_check, value_check, line_check, room_check}
@@ -44,10 +44,10 @@ value_first : (w : What) (a : ByteAddr) (b : List ℕ) (x y : Result Unit Refusa
     → value_check w a b x y v
     ≡ before (refused_if (is_deep v) Refusal.Deep) (before (refused_if (is_unknown v) Refusal.Label) (before x (before (refused_if (is_unfit w a b v) Refusal.Value) y)))
 unfolding value_check
-value_first w a b x y (Valued.Not e) = refl
-value_first w a b x y (Valued.Got Value.Unknown n) = refl
-value_first w a b x y (Valued.Got Value.Large n) = refl
-value_first w a b x y (Valued.Got (Value.Is z) n) = ap (λ (c : Result Unit Refusal). before x (before c y)) (fit_first (line_bits w a b z))
+value_first w a b x y (Err e) = refl
+value_first w a b x y (Ok (Value.Unknown, n)) = refl
+value_first w a b x y (Ok (Value.Large, n)) = refl
+value_first w a b x y (Ok (Value.Is z, n)) = ap (λ (c : Result Unit Refusal). before x (before c y)) (fit_first (line_bits w a b z))
 
 no_room : (s : List ℕ) → not (has_room s) ≡ leb 256 (length s)
 no_room s = go (has_room s) refl

@@ -1,6 +1,6 @@
 -- The row of the instruction that a line of known form says is what its fields write.
 -- Assumes nothing.
-use Rattle.std.specs.Prelude.{None, Option, Some}
+use Rattle.std.specs.Prelude.{None, Option, Some, Ok}
 use Prim.Native.Nat.{ℕ, ◌<◌}
 use mathlib.Core.Path.{◌≡◌, refl, sym, ap, ◌∙◌}
 use mathlib.Core.Bool.{Bool, true, false, ◌&&◌}
@@ -27,7 +27,7 @@ use Rattle.listing.specs.Listing.{row_of}
 use Rattle.listing.specs.declared.Operand.{Operand}
 use Rattle.listing.specs.declared.Row.{Row}
 use Rattle.expr.specs.Expr.{Labels, value_of}
-use Rattle.expr.specs.declared.Read.{Read as Valued}
+use Rattle.expr.specs.Expr.{Read as Valued}
 use Rattle.expr.specs.declared.Value.{Value}
 use Rattle.forms.specs.Form.{tabs_in, field_at, shape, kind_shape, number_at, is_of, fields_of, tabs_for, fits_shape}
 use Rattle.forms.specs.Says.{bits_of, unfit, scaled, halves_to, words_to, says_of, bits_said}
@@ -79,7 +79,7 @@ module _ (t : Labels) (b : List ℕ) (z : ℤ) (n : ℕ) where
   v = bits_of z
 
   abbrev read : Valued
-  read = Valued.Got (Value.Is z) n
+  read = Ok (Value.Is z, n)
 
   -- the operand in a field; where it is an expression, the value is its own
   abbrev at : Sort → ℕ → Operand

@@ -1,6 +1,6 @@
 -- What bytes show has a value that fits its place, so a value that is refused is shown by none.
 -- Assumes nothing.
-use Rattle.std.specs.Prelude.{Option, Some}
+use Rattle.std.specs.Prelude.{Option, Some, Ok}
 use Prim.Native.Nat.{ℕ, ◌%◌, ◌^◌, ◌<◌}
 use mathlib.Core.Logic.{inl, inr}
 use mathlib.Core.Path.{◌≡◌, refl, sym, ap, ◌∙◌}
@@ -28,7 +28,7 @@ use Rattle.listing.specs.declared.Operand.{Operand}
 use Rattle.listing.specs.declared.Row.{Row}
 use Rattle.expr.specs.Value.{signed_word}
 use Rattle.expr.specs.Expr.{Labels}
-use Rattle.expr.specs.declared.Read.{Read as Valued}
+use Rattle.expr.specs.Expr.{Read as Valued}
 use Rattle.expr.specs.declared.Value.{Value}
 use Rattle.forms.specs.Form.{body_of, field_at, what_of, what_in, kind_shape, shape_of, number_at}
 use Rattle.forms.specs.Says.{bits_of, scaled, says_of, bits_said, bits_at}
@@ -51,12 +51,12 @@ module _ (t : Labels) (a : ByteAddr) (ha : a.0 < 4294967296) (b : List ℕ) wher
   record Fit (w : What) : Type 0 where
     value : ℤ
     read : ℕ
-    valued : line_value t (shape_of w) b ≡ Valued.Got (Value.Is value) read
+    valued : line_value t (shape_of w) b ≡ Ok (Value.Is value, read)
     bits : has_bits (line_bits w a b value) ≡ true
 
   -- an instruction: the line has a value, and says it with that value
   Said : Instr → Type 0
-  Said i = (z : ℤ) × (n : ℕ) × (line_value t (kind_shape (kind_by i)) b ≡ Valued.Got (Value.Is z) n) × (bits_said (said_by (kind_by i) a b z) ≡ encode_of i)
+  Said i = (z : ℤ) × (n : ℕ) × (line_value t (kind_shape (kind_by i)) b ≡ Ok (Value.Is z, n)) × (bits_said (said_by (kind_by i) a b z) ≡ encode_of i)
 
   -- the registers c and d in the fields 2 and 3
   two_registers : (c d : ℕ) → (nib c && nib d) ≡ true → RowWrites t (Row.Two (Operand.Reg c) (Operand.Reg d)) b

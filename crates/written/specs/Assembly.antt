@@ -4,7 +4,7 @@ use Rattle.std.specs.Prelude.{ℕ, zero, suc, ◌+◌, ◌%◌, ◌≤◌, ◌<�
 use Rattle.word.specs.declared.ByteAddr.{ByteAddr}
 use Rattle.isa.specs.Statements.{has_bits}
 use Rattle.expr.specs.Expr.{Labels}
-use Rattle.expr.specs.declared.Read.{Read as Valued}
+use Rattle.expr.specs.Expr.{Read as Valued}
 use Rattle.expr.specs.declared.Value.{Value}
 use Rattle.forms.specs.Form.{lines_of, body_of, field_at, named, what_in, shape_of, is_known}
 use Rattle.forms.specs.declared.What.{What}
@@ -50,20 +50,20 @@ abbrev pub check_at : Labels → List ℕ → ℕ → ℕ → List ℕ → Resul
 check_at t s p n l = line_check t s (address_of p) (room_check p (shape_of (what_in l)).size n) (what_in l) l
 
 abbrev pub is_deep : Valued → Bool
-is_deep (Valued.Not e) = true
-is_deep (Valued.Got v n) = false
+is_deep (Err e) = true
+is_deep (Ok (v, n)) = false
 
 abbrev pub is_unknown : Valued → Bool
-is_unknown (Valued.Not e) = false
-is_unknown (Valued.Got Value.Unknown n) = true
-is_unknown (Valued.Got Value.Large n) = false
-is_unknown (Valued.Got (Value.Is z) n) = false
+is_unknown (Err e) = false
+is_unknown (Ok (Value.Unknown, n)) = true
+is_unknown (Ok (Value.Large, n)) = false
+is_unknown (Ok (Value.Is z, n)) = false
 
 abbrev pub is_unfit : What → ByteAddr → List ℕ → Valued → Bool
-is_unfit w a b (Valued.Not e) = false
-is_unfit w a b (Valued.Got Value.Unknown n) = false
-is_unfit w a b (Valued.Got Value.Large n) = true
-is_unfit w a b (Valued.Got (Value.Is z) n) = not (has_bits (line_bits w a b z))
+is_unfit w a b (Err e) = false
+is_unfit w a b (Ok (Value.Unknown, n)) = false
+is_unfit w a b (Ok (Value.Large, n)) = true
+is_unfit w a b (Ok (Value.Is z, n)) = not (has_bits (line_bits w a b z))
 
 abbrev pub value_in : Labels → List ℕ → Valued
 value_in t l = line_value t (shape_of (what_in l)) (body_of l)

@@ -1,15 +1,17 @@
+use Prim.Native.Nat.{◌/◌}
+use native.Mathlib.Omega.{arith}
 use borrow.Author.Tests.{lt-ltb, le-ltb}
 use Rattle.listing.specs.Names.{place_of}
 use Rattle.listing.proofs.names.place_of.Goals as goal
 
-pub returns-then-n-lt64 : goal.returns-then-n-lt64
+pub returns-in-0-to-63 : goal.returns-in-0-to-63
 unfolding place_of
-returns-then-n-lt64 c = rw (lt-ltb _ _ c.if-n-lt64.true)
+returns-in-0-to-63 c = rw (lt-ltb (c.args.first / 256) 64 (omega arith))
 
-pub returns-then-n-lt224 : goal.returns-then-n-lt224
+pub returns-in-64-to-223 : goal.returns-in-64-to-223
 unfolding place_of
-returns-then-n-lt224 c = rw (lt-ltb _ _ c.if-n-lt224.true, le-ltb _ _ c.if-n-lt64.false)
+returns-in-64-to-223 c = rw (le-ltb (c.args.first / 256) 64 (omega arith), lt-ltb (c.args.first / 256) 224 (omega arith))
 
-pub returns : goal.returns
+pub returns-in_default : goal.returns-in_default
 unfolding place_of
-returns c = rw (le-ltb _ _ c.if-n-lt224.false, le-ltb _ _ c.if-n-lt64.false)
+returns-in_default c = rw (le-ltb (c.args.first / 256) 64 (omega arith), le-ltb (c.args.first / 256) 224 (omega arith))
