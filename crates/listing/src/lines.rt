@@ -37,12 +37,14 @@ fn second_in(image: &[u8], at: ByteAddr, first: u16) -> u16
     }
 }
 
+// With one arm `_ => d` for what isn't cut a line takes 25 instructions more.
 fn cut(end: usize, at: ByteAddr, d: Option<Decoded>) -> Option<Decoded>
     ensures { result ≡ cut_by end at d }
 {
     match d {
-        Some(Decoded::Long(_)) if end < at.0 as usize + 4 => None,
-        _ => d,
+        Some(Decoded::Short(i)) => Some(Decoded::Short(i)),
+        Some(Decoded::Long(i)) if at.0 as usize + 4 <= end => Some(Decoded::Long(i)),
+        _ => None,
     }
 }
 
