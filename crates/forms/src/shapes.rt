@@ -42,10 +42,8 @@ pub fn table() -> [u64; 312]
 {
     let names = numbers();
     let mut table = [0u64; 312];
-    let mut place: usize = 0;
-    while place < 83 {
-        put_entry(&mut table, names[place], place);
-        place += 1;
+    for (place, name) in names.iter().enumerate() {
+        put_entry(&mut table, *name, place);
     }
     table
 }
