@@ -51,6 +51,7 @@ fn put_lines(out: &mut [u8], image: &[u8], start: u32, end: usize, keep: bool) -
 }
 
 // A buffer of 24 bytes for each byte of the range has room for every listing. Where it is shorter, the length is found first.
+#[tactic(auto, using(crate::proofs::Lent::roomy))]
 fn is_short(room: usize, image: &[u8], start: usize, end: usize) -> bool
     requires { Good (length image.now) start end }
     ensures { result ≡ ltb room (length (listing_of image.now start end)) }
@@ -62,6 +63,7 @@ fn is_short(room: usize, image: &[u8], start: usize, end: usize) -> bool
     room < put_lines(&mut line, image, start as u32, end, false)
 }
 
+#[tactic(auto, using(crate::proofs::Lent::lent_out, crate::proofs::Lent::lent_short, crate::proofs::Lent::lent_done), unfolding(crate::specs::Lent::listed_of))]
 pub fn list(image: &[u8], start: usize, end: usize, out: &mut [u8]) -> Result<usize, Refusal>
     ensures { answered result out.new ≡ listed_of image.now start end out.old }
 {
