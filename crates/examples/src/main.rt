@@ -1,127 +1,84 @@
 // Runs the inputs of examples/ one after the other (docs/EXAMPLES.md), each fed in parts of 7 bytes, and writes each one's name and answer.
 #![tactic(auto)]
 
+ghost use Rattle.std.specs.Prelude.{◌≤◌};
+
 use reading::read_full;
 use script::Reader;
 use std::io;
 use text::Read;
 
-fn write_start(rt: &impl Print, text: &[u8], n: usize) -> io::Result<()> {
-    let end = word::at_most(n, text.len());
-    rt.write_all(&text[..end])
+// An input's name and its count of bytes, a part of it, the line that a part's end cuts, and memory with its marks.
+#[derive(Drop)]
+struct Rooms {
+    name: [u8; 41],
+    count: [u8; 8],
+    part: [u8; 7],
+    line: [u8; 45],
+    memory: [u8; 16384],
+    marks: [u8; 2048],
 }
 
-// An array behind a reference is lent as a slice with no proof of its length.
-fn write_made(rt: &impl Print, text: &[u8; 256], n: usize) -> io::Result<()> {
-    write_start(rt, text, n)
+impl Rooms {
+    fn feed_some(&mut self, input: &mut impl io::Read, r: Reader, n: usize) -> io::Result<Reader>
+        requires { n ≤ 7 }
+    {
+        read_full(input, &mut self.part[..n])?;
+        Ok(script::feed(
+            r,
+            &self.part[..n],
+            &mut self.line,
+            &mut self.memory,
+            &mut self.marks,
+        ))
+    }
+
+    fn feed_all(&mut self, input: &mut impl io::Read, count: usize) -> io::Result<Reader> {
+        let mut r = script::start(&mut self.memory, &mut self.marks);
+        for _ in 0..count / 7 {
+            r = self.feed_some(input, r, 7)?;
+        }
+        self.feed_some(input, r, count % 7)
+    }
+
+    fn write_answer(&mut self, rt: &impl Print, r: Reader) -> io::Result<()> {
+        let mut out = [0u8; 256];
+        let n = answer::answer(r, &mut self.memory, &mut self.marks, &mut out);
+        rt.write_all(text::start_part(&out, n))
+    }
+
+    // At most 10,000 inputs, so that the loop ends.
+    fn answer_all(&mut self, rt: &impl Print, input: &mut impl io::Read) -> io::Result<()> {
+        for _ in 0..10000 {
+            if read_full(input, &mut self.name)? < 41 {
+                return Ok(());
+            }
+            read_full(input, &mut self.count)?;
+            rt.write_all(&self.name)?;
+            let count = count_in(&self.count);
+            let r = self.feed_all(input, count)?;
+            self.write_answer(rt, r)?;
+        }
+        Ok(())
+    }
 }
 
 // Where there is no count, nothing is read.
 fn count_in(count: &[u8]) -> usize {
-    let r = text::address(count);
-    match r {
+    match text::address(count) {
         Read::Number(n) => n as usize,
         Read::Nothing => 0,
     }
 }
 
-fn feed_whole(
-    input: &mut impl io::Read,
-    r: Reader,
-    part: &mut [u8],
-    line: &mut [u8; 45],
-    m: &mut [u8; 16384],
-    k: &mut [u8; 2048],
-) -> io::Result<Reader> {
-    read_full(input, part)?;
-    Ok(script::feed(r, part, line, m, k))
-}
-
-fn feed_some(
-    input: &mut impl io::Read,
-    r: Reader,
-    n: usize,
-    part: &mut [u8],
-    line: &mut [u8; 45],
-    m: &mut [u8; 16384],
-    k: &mut [u8; 2048],
-) -> io::Result<Reader> {
-    let end = word::at_most(n, part.len());
-    feed_whole(input, r, &mut part[..end], line, m, k)
-}
-
-fn feed_all(
-    input: &mut impl io::Read,
-    r: Reader,
-    count: usize,
-    part: &mut [u8; 7],
-    line: &mut [u8; 45],
-    m: &mut [u8; 16384],
-    k: &mut [u8; 2048],
-) -> io::Result<Reader> {
-    let mut s = r;
-    let mut left = count;
-    while 7 <= left {
-        s = feed_some(input, s, 7, part, line, m, k)?;
-        left -= 7;
-    }
-    feed_some(input, s, left, part, line, m, k)
-}
-
-fn answer_one(
-    rt: &impl Print,
-    input: &mut impl io::Read,
-    count: usize,
-    part: &mut [u8; 7],
-    line: &mut [u8; 45],
-    m: &mut [u8; 16384],
-    k: &mut [u8; 2048],
-) -> io::Result<()> {
-    let r = feed_all(input, script::start(m, k), count, part, line, m, k)?;
-    let mut out = [0u8; 256];
-    let n = answer::answer(r, m, k, &mut out);
-    write_made(rt, &out, n)
-}
-
-// At most 10,000 inputs, so that the loop ends.
-fn answer_all(
-    rt: &impl Print,
-    input: &mut impl io::Read,
-    name: &mut [u8; 41],
-    count: &mut [u8; 8],
-    part: &mut [u8; 7],
-    line: &mut [u8; 45],
-    m: &mut [u8; 16384],
-    k: &mut [u8; 2048],
-) -> io::Result<()> {
-    let mut i: u32 = 0;
-    while i < 10000 {
-        if read_full(input, name)? < 41 {
-            return Ok(());
-        }
-        read_full(input, count)?;
-        rt.write_all(name)?;
-        answer_one(rt, input, count_in(count), part, line, m, k)?;
-        i += 1;
-    }
-    Ok(())
-}
-
 fn main(rt: HostRuntime) -> io::Result<()> {
-    let mut name = [0u8; 41];
-    let mut count = [0u8; 8];
-    let mut part = [0u8; 7];
-    let mut line = [0u8; 45];
-    let mut m = [0u8; 16384];
-    let mut k = [0u8; 2048];
-    answer_all(
-        &rt,
-        &mut rt.reader(),
-        &mut name,
-        &mut count,
-        &mut part,
-        &mut line,
-        &mut m,
-        &mut k,
-    )
+    let mut rooms = Rooms {
+        name: [0; 41],
+        count: [0; 8],
+        part: [0; 7],
+        line: [0; 45],
+        memory: [0; 16384],
+        marks: [0; 2048],
+    };
+    rooms.answer_all(&rt, &mut rt.reader())
 }

@@ -26,9 +26,6 @@ use Rattle.manik_list.specs.Numbers.{digit_of, number_in, is_hex, word_of}
 
 -- ---- digits
 
-apart : false ≡ true → ⊥
-apart e = let z : ◌≡◌ {A = ℕ} 0 1 = cc in omega arith
-
 module _ (l : List ℕ) (i : ℕ) (h : i < length l) where
   next : drop i l ≡ get_or l i 0 ∷ drop (i + 1) l
   next = rw (add-one, drop-cons l i 0)
