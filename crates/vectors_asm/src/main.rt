@@ -25,7 +25,8 @@ impl Rooms {
         }
         read_full(input, &mut self.text[..t])?;
         read_full(input, &mut self.image[..n])?;
-        assemble(rt, &self.text[..t], start, &mut self.image[..n])?;
+        let image = &mut self.image[..];
+        assemble(rt, &self.text[..t], start, &mut image[..n])?;
         Ok(true)
     }
 
