@@ -7,8 +7,7 @@ ghost use Rattle.marks.specs.Memory.{bits};
 ghost use Rattle.abi_show.specs.Show.{letter_of, detail_of, is_at, address_of, placed, written_to, look_of, show_of};
 
 use cpu::Entry;
-use machine::{Data, Judged, Line, State};
-use trace::Seen;
+use machine::{Line, State};
 use word::{ByteAddr, Width};
 
 fn letter(e: Entry) -> u32
@@ -39,21 +38,21 @@ fn detail(e: Entry) -> u32
     }
 }
 
-fn has_address(a: Data) -> u32
+fn has_address(a: Option<ByteAddr>) -> u32
     ensures { result ≡ is_at a }
 {
     match a {
-        Data::Nowhere => 0,
-        Data::At(_) => 1,
+        None => 0,
+        Some(_) => 1,
     }
 }
 
-fn address(a: Data) -> u32
+fn address(a: Option<ByteAddr>) -> u32
     ensures { result ≡ address_of a }
 {
     match a {
-        Data::Nowhere => 0,
-        Data::At(at) => at.0,
+        None => 0,
+        Some(at) => at.0,
     }
 }
 
@@ -78,13 +77,13 @@ fn write_line(x: Line, out: &mut [u8])
 }
 
 // What a run with a budget of 1 would show.
-fn look(lines: u8, s: State, m: &[u8], mk: &[u8]) -> Seen
+fn look(lines: u8, s: State, m: &[u8], mk: &[u8]) -> Option<Line>
     ensures { result ≡ look_of lines s m.now (bits mk.now) }
 {
     let j = machine::judge_all(1, &[lines], s, m, mk);
     match j {
-        Judged::Refused(_) => Seen::Nothing,
-        Judged::Good => trace::show(lines as u32, s, m, mk),
+        Err(_) => None,
+        Ok(()) => trace::show(lines as u32, s, m, mk),
     }
 }
 
@@ -97,10 +96,10 @@ pub fn manik_show(state: &[u8], mem: &[u8], marks: &[u8], lines: u8, line: &mut 
         if abi::is_shaped(state) {
             let seen = look(lines, abi::state_at(state), mem, marks);
             match seen {
-                Seen::Nothing => {
+                None => {
                     return 0;
                 }
-                Seen::Step(x) => {
+                Some(x) => {
                     write_line(x, line);
                     return 1;
                 }

@@ -1,5 +1,6 @@
 -- Laws that the functions' proofs cite.
 -- Assumes nothing.
+use Rattle.std.specs.Prelude.{Err, Ok, Result}
 use Prim.Native.Nat.{ℕ, suc, ◌+◌, ◌%◌, ◌<◌, ◌≤◌}
 use mathlib.Core.Path.{◌≡◌, refl, sym, ap, ap₂, ◌∙◌}
 use mathlib.Core.Bool.{Bool, true, false, cond, not, ◌&&◌, ◌||◌}
@@ -21,7 +22,6 @@ use Rattle.text.proofs.Pages.{write_append}
 use Rattle.forms.specs.declared.Sort.{Sort}
 use Rattle.forms.specs.declared.What.{What}
 use Rattle.asm.specs.declared.Refusal.{Refusal}
-use Rattle.asm.specs.declared.Checked.{Checked}
 use Rattle.asm.specs.declared.Assembled.{Assembled}
 use Rattle.forms.specs.Form.{body_of, field_at, lines_of, what_in, shape_of, is_known_as, is_known}
 use Rattle.asm.specs.Parts.{takes_sum, check_by, all_known, check_sure}
@@ -38,7 +38,7 @@ sum_by t Sort.Sfr f o = refl
 sum_by t Sort.LowSfr f o = refl
 sum_by t Sort.Sum f o = refl
 
-pub check_by_lem : (w : What) (a : ByteAddr) (b : List ℕ) (l r : Checked) (v : Valued)
+pub check_by_lem : (w : What) (a : ByteAddr) (b : List ℕ) (l r : Result Unit Refusal) (v : Valued)
     → check_by w (shape_of w) a (field_at 2 b) (field_at 3 b) (field_at 4 b) l r v ≡ value_check w a b l r v
 unfolding check_by value_check line_bits
 check_by_lem w a b l r (Valued.Not e) = refl
@@ -122,16 +122,16 @@ module _ (x : List ℕ) (i : ℕ) (h : length x ≤ i) where
   code_end t a p = rw lines_end
 
 -- what is fine has room
-fine_last : (x y z : Checked) → before x (before y z) ≡ Checked.Fine → z ≡ Checked.Fine
-fine_last Checked.Fine Checked.Fine z e = e
-fine_last Checked.Fine (Checked.Not r) z e = let n : ◌≡◌ {A = ℕ} 0 1 = cc in absurd (omega arith)
-fine_last (Checked.Not r) y z e = let n : ◌≡◌ {A = ℕ} 0 1 = cc in absurd (omega arith)
+fine_last : (x y z : Result Unit Refusal) → before x (before y z) ≡ (Ok tt) → z ≡ (Ok tt)
+fine_last (Ok _) (Ok _) z e = e
+fine_last (Ok _) (Err r) z e = let n : ◌≡◌ {A = ℕ} 0 1 = cc in absurd (omega arith)
+fine_last (Err r) y z e = let n : ◌≡◌ {A = ℕ} 0 1 = cc in absurd (omega arith)
 
-fine_before : (x : Checked) (r : Refusal) → before x (Checked.Not r) ≡ Checked.Fine → ⊥
-fine_before Checked.Fine r e = let n : ◌≡◌ {A = ℕ} 0 1 = cc in absurd (omega arith)
-fine_before (Checked.Not q) r e = let n : ◌≡◌ {A = ℕ} 0 1 = cc in absurd (omega arith)
+fine_before : (x : Result Unit Refusal) (r : Refusal) → before x (Err r) ≡ (Ok tt) → ⊥
+fine_before (Ok _) r e = let n : ◌≡◌ {A = ℕ} 0 1 = cc in absurd (omega arith)
+fine_before (Err q) r e = let n : ◌≡◌ {A = ℕ} 0 1 = cc in absurd (omega arith)
 
-fine_value : (w : What) (a : ByteAddr) (b : List ℕ) (x y : Checked) (v : Valued) → value_check w a b x y v ≡ Checked.Fine → y ≡ Checked.Fine
+fine_value : (w : What) (a : ByteAddr) (b : List ℕ) (x y : Result Unit Refusal) (v : Valued) → value_check w a b x y v ≡ (Ok tt) → y ≡ (Ok tt)
 unfolding value_check
 fine_value w a b x y (Valued.Not e) q = let n : ◌≡◌ {A = ℕ} 0 1 = cc in absurd (omega arith)
 fine_value w a b x y (Valued.Got Value.Unknown n) q = let n : ◌≡◌ {A = ℕ} 0 1 = cc in absurd (omega arith)
@@ -139,36 +139,36 @@ fine_value w a b x y (Valued.Got Value.Large n) q = absurd (fine_before x Refusa
 fine_value w a b x y (Valued.Got (Value.Is z) n) q = fine_last x (fit_check (line_bits w a b z)) y q
 
 pub fine_room : (t : Labels) (s : List ℕ) (a : ByteAddr) (p n m : ℕ) (w : What) (l : List ℕ)
-    → line_check t s a (room_check p n m) w l ≡ Checked.Fine → p + n ≤ m
+    → line_check t s a (room_check p n m) w l ≡ (Ok tt) → p + n ≤ m
 unfolding line_check room_check
 fine_room t s a p n m w l e = room (ltb m (p + n)) refl (known (is_known_as w l) e)
   where
-    y : Checked
+    y : Result Unit Refusal
     y = refused_if (ltb m (p + n)) Refusal.Room
 
-    known : (u : Bool) → cond u (value_check w a (body_of l) (label_check s (label_in l)) y (line_value t (shape_of w) (body_of l))) (Checked.Not Refusal.Form) ≡ Checked.Fine → y ≡ Checked.Fine
+    known : (u : Bool) → cond u (value_check w a (body_of l) (label_check s (label_in l)) y (line_value t (shape_of w) (body_of l))) (Err Refusal.Form) ≡ (Ok tt) → y ≡ (Ok tt)
     known true q = fine_value w a (body_of l) (label_check s (label_in l)) y (line_value t (shape_of w) (body_of l)) q
     known false q = let n : ◌≡◌ {A = ℕ} 0 1 = cc in absurd (omega arith)
 
-    room : (u : Bool) → ltb m (p + n) ≡ u → refused_if u Refusal.Room ≡ Checked.Fine → p + n ≤ m
+    room : (u : Bool) → ltb m (p + n) ≡ u → refused_if u Refusal.Room ≡ (Ok tt) → p + n ≤ m
     room true f q = let n : ◌≡◌ {A = ℕ} 0 1 = cc in absurd (omega arith)
     room false f q = ltb-false m (p + n) f
 
-pub verdict_on : (s r l z v : List ℕ) (t : Labels) (w : What) (p n m k i j : ℕ) (c : Checked)
-    → lines_of s ≡ l ∷ lines_of r → w ≡ what_in l → n ≡ bytes_for true w → c ≡ line_check t z (address_of p) (room_check p n m) w l → c ≡ Checked.Fine → k ≡ label_in l
+pub verdict_on : (s r l z v : List ℕ) (t : Labels) (w : What) (p n m k i j : ℕ) (c : Result Unit Refusal)
+    → lines_of s ≡ l ∷ lines_of r → w ≡ what_in l → n ≡ bytes_for true w → c ≡ line_check t z (address_of p) (room_check p n m) w l → c ≡ (Ok tt) → k ≡ label_in l
     → v ≡ with_name z k → j ≡ suc i
     → verdict_of t v (p + n) m j (lines_of r) ≡ verdict_of t z p m i (lines_of s)
 unfolding verdict_of bytes_for
 verdict_on s r l z v t w p n m k i j c e f g h q a b d =
-    let u : line_check t z (address_of p) (room_check p (shape_of (what_in l)).size m) (what_in l) l ≡ Checked.Fine = rw (← f, ← g, ← h) q in
+    let u : line_check t z (address_of p) (room_check p (shape_of (what_in l)).size m) (what_in l) l ≡ (Ok tt) = rw (← f, ← g, ← h) q in
     rw (e, u, d, b, a, g, f)
 
-pub verdict_stops : (s r l z : List ℕ) (t : Labels) (w : What) (p n m i j : ℕ) (c : Checked) (x : Refusal)
-    → lines_of s ≡ l ∷ lines_of r → w ≡ what_in l → n ≡ bytes_for true w → c ≡ line_check t z (address_of p) (room_check p n m) w l → c ≡ Checked.Not x → j ≡ suc i
+pub verdict_stops : (s r l z : List ℕ) (t : Labels) (w : What) (p n m i j : ℕ) (c : Result Unit Refusal) (x : Refusal)
+    → lines_of s ≡ l ∷ lines_of r → w ≡ what_in l → n ≡ bytes_for true w → c ≡ line_check t z (address_of p) (room_check p n m) w l → c ≡ Err x → j ≡ suc i
     → Assembled.Refused x j ≡ verdict_of t z p m i (lines_of s)
 unfolding verdict_of bytes_for
 verdict_stops s r l z t w p n m i j c x e f g h q d =
-    let u : line_check t z (address_of p) (room_check p (shape_of (what_in l)).size m) (what_in l) l ≡ Checked.Not x = rw (← f, ← g, ← h) q in
+    let u : line_check t z (address_of p) (room_check p (shape_of (what_in l)).size m) (what_in l) l ≡ Err x = rw (← f, ← g, ← h) q in
     rw (e, u, d)
 
 pub code_on : (s r l d : List ℕ) (t : Labels) (a b : ByteAddr) (w : What) (n : ℕ) (p q : Page)
@@ -213,7 +213,7 @@ module _ (s r l : List ℕ) (w : What) (e : lines_of s ≡ l ∷ lines_of r) (f 
   pub rest_known : all_known (lines_of s) ≡ true → all_known (lines_of r) ≡ true
   rest_known h = and_right (is_known l) (all_known (lines_of r)) (both_known h)
 
-pub sure_check : (sure : Bool) (t : Labels) (s : List ℕ) (a : ByteAddr) (y : Checked) (w : What) (l : List ℕ)
+pub sure_check : (sure : Bool) (t : Labels) (s : List ℕ) (a : ByteAddr) (y : Result Unit Refusal) (w : What) (l : List ℕ)
     → (sure ≡ true → is_known_as w l ≡ true) → check_sure sure t s a y w l ≡ line_check t s a y w l
 unfolding check_sure line_check
 sure_check true t s a y w l h = rw (h refl)

@@ -1,6 +1,6 @@
 -- The assembler: labels, refusals, and the image (document 02, ticket 4).
 -- Assumes nothing.
-use Rattle.std.specs.Prelude.{ℕ, suc, ◌+◌, ◌%◌, Bool, cond, not, ◌&&◌, ◌||◌, List, [], ◌∷◌, ◌++◌, ltb, eqb, ℤ, pos, length}
+use Rattle.std.specs.Prelude.{ℕ, suc, ◌+◌, ◌%◌, Bool, cond, not, ◌&&◌, ◌||◌, List, [], ◌∷◌, ◌++◌, ltb, eqb, ℤ, pos, length, Err, None, Ok, Option, Result, Some}
 use Rattle.word.specs.Numbers.{wrap}
 use Rattle.word.specs.Addresses.{byte_sum}
 use Rattle.word.specs.declared.ByteAddr.{ByteAddr}
@@ -15,7 +15,6 @@ use Rattle.forms.specs.declared.What.{What}
 use Rattle.forms.specs.declared.Sort.{Sort}
 use Rattle.forms.specs.declared.Shape.{Shape}
 use Rattle.asm.specs.declared.Refusal.{Refusal}
-use Rattle.asm.specs.declared.Checked.{Checked}
 use Rattle.asm.specs.declared.Assembled.{Assembled}
 
 -- ---- a line of known form
@@ -40,7 +39,7 @@ unfoldable pub line_value : Labels → Shape → List ℕ → Valued
 line_value t s b = sum_at t s.first (field_at 2 b) (sum_at t s.second (field_at 3 b) zero_read)
 
 -- its bits at a, for what it names and its value; none if that doesn't fit its place
-unfoldable pub line_bits : What → ByteAddr → List ℕ → ℤ → Encoded
+unfoldable pub line_bits : What → ByteAddr → List ℕ → ℤ → Option Encoded
 line_bits w a b z =
     bits_at w a (number_at (shape_of w).first (field_at 2 b)) (number_at (shape_of w).second (field_at 3 b)) (number_at (shape_of w).third (field_at 4 b)) (bits_of z)
 
@@ -104,44 +103,44 @@ end_of (Assembled.Done i e) = e
 end_of (Assembled.Refused r i) = 0
 
 -- the first of two checks that refuses
-abbrev pub before : Checked → Checked → Checked
-before Checked.Fine x = x
-before (Checked.Not r) x = Checked.Not r
+abbrev pub before : Result Unit Refusal → Result Unit Refusal → Result Unit Refusal
+before (Ok _) x = x
+before (Err r) x = Err r
 
-abbrev pub refused_if : Bool → Refusal → Checked
-refused_if t r = cond t (Checked.Not r) Checked.Fine
+abbrev pub refused_if : Bool → Refusal → Result Unit Refusal
+refused_if t r = cond t (Err r) (Ok tt)
 
 -- "33 label written twice, 34 too many labels"; s the names of the labels set before
-unfoldable pub label_check : List ℕ → ℕ → Checked
-label_check s k = cond (eqb k 0) Checked.Fine (before (refused_if (is_set s k) Refusal.Twice) (refused_if (not (has_room s)) Refusal.Many))
+unfoldable pub label_check : List ℕ → ℕ → Result Unit Refusal
+label_check s k = cond (eqb k 0) (Ok tt) (before (refused_if (is_set s k) Refusal.Twice) (refused_if (not (has_room s)) Refusal.Many))
 
 -- "35 value that doesn't fit its place"
-abbrev pub fit_check : Encoded → Checked
-fit_check (Encoded.Half h) = Checked.Fine
-fit_check (Encoded.Pair h s) = Checked.Fine
-fit_check Encoded.Nothing = Checked.Not Refusal.Value
+abbrev pub fit_check : Option Encoded → Result Unit Refusal
+fit_check (Some (Encoded.Half h)) = (Ok tt)
+fit_check (Some (Encoded.Pair h s)) = (Ok tt)
+fit_check None = Err Refusal.Value
 
 -- "31 ninth parenthesis, 32 unknown label", then those of the line's own label, then 35, and "36 no room in the image": x is of its own label, y of its room
-unfoldable pub value_check : What → ByteAddr → List ℕ → Checked → Checked → Valued → Checked
-value_check w a b x y (Valued.Not e) = Checked.Not Refusal.Deep
-value_check w a b x y (Valued.Got Value.Unknown n) = Checked.Not Refusal.Label
-value_check w a b x y (Valued.Got Value.Large n) = before x (Checked.Not Refusal.Value)
+unfoldable pub value_check : What → ByteAddr → List ℕ → Result Unit Refusal → Result Unit Refusal → Valued → Result Unit Refusal
+value_check w a b x y (Valued.Not e) = Err Refusal.Deep
+value_check w a b x y (Valued.Got Value.Unknown n) = Err Refusal.Label
+value_check w a b x y (Valued.Got Value.Large n) = before x (Err Refusal.Value)
 value_check w a b x y (Valued.Got (Value.Is z) n) = before x (before (fit_check (line_bits w a b z)) y)
 
 -- a line at a that names w: t all labels, s the names of those set before it, y the check of its room; "30 unknown form" comes first
-unfoldable pub line_check : Labels → List ℕ → ByteAddr → Checked → What → List ℕ → Checked
+unfoldable pub line_check : Labels → List ℕ → ByteAddr → Result Unit Refusal → What → List ℕ → Result Unit Refusal
 line_check t s a y w l =
-    cond (is_known_as w l) (value_check w a (body_of l) (label_check s (label_in l)) y (line_value t (shape_of w) (body_of l))) (Checked.Not Refusal.Form)
+    cond (is_known_as w l) (value_check w a (body_of l) (label_check s (label_in l)) y (line_value t (shape_of w) (body_of l))) (Err Refusal.Form)
 
 -- n bytes from p on, in an image of m
-unfoldable pub room_check : ℕ → ℕ → ℕ → Checked
+unfoldable pub room_check : ℕ → ℕ → ℕ → Result Unit Refusal
 room_check p n m = refused_if (ltb m (p + n)) Refusal.Room
 
 -- ---- the whole text: "first line first"
 
-abbrev pub go_on : Checked → ℕ → Assembled → Assembled
-go_on Checked.Fine i rest = rest
-go_on (Checked.Not r) i rest = Assembled.Refused r i
+abbrev pub go_on : Result Unit Refusal → ℕ → Assembled → Assembled
+go_on (Ok _) i rest = rest
+go_on (Err r) i rest = Assembled.Refused r i
 
 -- i lines come before, and the next one stands at p
 unfoldable pub verdict_of : Labels → List ℕ → ℕ → ℕ → ℕ → List (List ℕ) → Assembled

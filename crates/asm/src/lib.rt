@@ -22,12 +22,6 @@ pub enum Refusal {
     Room,
 }
 
-#[derive(Clone, Copy)]
-pub enum Checked {
-    Fine,
-    Not(Refusal),
-}
-
 // The number of lines and the address after the last byte, or what is refused and the line.
 #[derive(Clone, Copy)]
 pub enum Assembled {

@@ -7,11 +7,10 @@ ghost use Rattle.forms.specs.Says.{bytes_in};
 ghost use Rattle.asm.specs.Parts.{takes_sum, value_by, bits_by, check_by, check_sure};
 ghost use Rattle.asm.specs.Assemble.{label_in, before, label_check, fit_check, room_check, value_in, line_bytes};
 
-use crate::{Checked, Refusal};
+use crate::Refusal;
 use expr::{Read, Value};
 use forms::{
-    Cut, Shape, Sort, What, bits_at, bits_of, is_known, number_at, shape_of, tabs_in, what_of,
-};
+    Cut, Shape, Sort, What, bits_at, bits_of, is_known, number_at, shape_of, tabs_in, what_of};
 use isa::Encoded;
 use word::ByteAddr;
 
@@ -98,7 +97,7 @@ pub fn line_value(s: Shape, x: &[u8], y: &[u8], keys: &[u64], places: &[u32]) ->
     Read::Got(Value::Is(0), 0)
 }
 
-pub fn line_bits(w: What, s: Shape, at: ByteAddr, x: &[u8], y: &[u8], z: &[u8], v: i32) -> Encoded
+pub fn line_bits(w: What, s: Shape, at: ByteAddr, x: &[u8], y: &[u8], z: &[u8], v: i32) -> Option<Encoded>
     ensures { result ≡ bits_by w s at x.now y.now z.now v }
 {
     let first = s.first;
@@ -123,48 +122,48 @@ pub fn value_in(r: Read) -> i32
     }
 }
 
-fn label_check(seen: &[u64], k: u64) -> Checked
+fn label_check(seen: &[u64], k: u64) -> Result<(), Refusal>
     ensures { result ≡ label_check seen.now k }
 {
     if k == 0 {
-        return Checked::Fine;
+        return Ok(());
     }
     if expr::find(seen, k) < seen.len() {
-        return Checked::Not(Refusal::Twice);
+        return Err(Refusal::Twice);
     }
     if seen.len() < 256 {
-        return Checked::Fine;
+        return Ok(());
     }
-    Checked::Not(Refusal::Many)
+    Err(Refusal::Many)
 }
 
-fn fit_check(e: Encoded) -> Checked
+fn fit_check(e: Option<Encoded>) -> Result<(), Refusal>
     ensures { result ≡ fit_check e }
 {
     match e {
-        Encoded::Half(_) => Checked::Fine,
-        Encoded::Pair(_, _) => Checked::Fine,
-        Encoded::Nothing => Checked::Not(Refusal::Value),
+        Some(Encoded::Half(_)) => Ok(()),
+        Some(Encoded::Pair(_, _)) => Ok(()),
+        None => Err(Refusal::Value),
     }
 }
 
 // Whether n bytes from `at` on lie in an image of `end` bytes.
-pub fn room_check(at: usize, n: u32, end: usize) -> Checked
+pub fn room_check(at: usize, n: u32, end: usize) -> Result<(), Refusal>
     requires { at ≤ end }
     ensures { result ≡ room_check at n end }
 {
     if end - at < n as usize {
-        return Checked::Not(Refusal::Room);
+        return Err(Refusal::Room);
     }
-    Checked::Fine
+    Ok(())
 }
 
-fn first_of(x: Checked, y: Checked) -> Checked
+fn first_of(x: Result<(), Refusal>, y: Result<(), Refusal>) -> Result<(), Refusal>
     ensures { result ≡ before x y }
 {
     match x {
-        Checked::Fine => y,
-        Checked::Not(r) => Checked::Not(r),
+        Ok(()) => y,
+        Err(r) => Err(r),
     }
 }
 
@@ -175,10 +174,10 @@ fn value_check(
     x: &[u8],
     y: &[u8],
     z: &[u8],
-    label: Checked,
-    room: Checked,
+    label: Result<(), Refusal>,
+    room: Result<(), Refusal>,
     r: Read,
-) -> Checked
+) -> Result<(), Refusal>
     ensures { result ≡ check_by w s at x.now y.now z.now label room r }
 {
     match r {
@@ -187,10 +186,10 @@ fn value_check(
                 let bits = line_bits(w, s, at, x, y, z, i);
                 first_of(label, first_of(fit_check(bits), room))
             }
-            Value::Large => first_of(label, Checked::Not(Refusal::Value)),
-            Value::Unknown => Checked::Not(Refusal::Label),
+            Value::Large => first_of(label, Err(Refusal::Value)),
+            Value::Unknown => Err(Refusal::Label),
         },
-        Read::Not(_) => Checked::Not(Refusal::Deep),
+        Read::Not(_) => Err(Refusal::Deep),
     }
 }
 
@@ -215,8 +214,8 @@ pub fn line_check(
     places: &[u32],
     seen: &[u64],
     at: ByteAddr,
-    room: Checked,
-) -> Checked
+    room: Result<(), Refusal>,
+) -> Result<(), Refusal>
     requires { c ≡ cut_of s.now }
     ensures { result ≡ check_sure sure (labels keys.now places.now) seen.now at room w (first_line s.now) }
 {
@@ -229,10 +228,10 @@ pub fn line_check(
         let label = label_check(seen, label_in(s, c));
         return value_check(w, shape, at, x, y, z, label, room, value);
     }
-    Checked::Not(Refusal::Form)
+    Err(Refusal::Form)
 }
 
-pub fn line_bytes(s: &[u8], c: Cut, w: What, keys: &[u64], places: &[u32], at: ByteAddr) -> Encoded
+pub fn line_bytes(s: &[u8], c: Cut, w: What, keys: &[u64], places: &[u32], at: ByteAddr) -> Option<Encoded>
     requires { c ≡ cut_of s.now }
     ensures { bytes_in result ≡ line_bytes (labels keys.now places.now) at w (first_line s.now) }
 {

@@ -10,7 +10,7 @@ ghost use Rattle.asm.specs.Assemble.{address_of, label_for, bytes_for, labels_of
 
 use crate::labels::{add_label, add_name};
 use crate::lines::{is_known_as, label_in, line_bytes, line_check, room_check, what_in};
-use crate::{Assembled, Checked, Collected, Refusal};
+use crate::{Assembled, Collected, Refusal};
 use forms::{Cut, What, cut_line, shape_of, table};
 use isa::Encoded;
 use word::ByteAddr;
@@ -98,13 +98,13 @@ fn judge(
         let a = address_of(to);
         let checked = line_check(sure, s, c, w, keys, places, &seen[..count], a, room);
         match checked {
-            Checked::Fine => {
+            Ok(()) => {
                 count = add_name(seen, count, label_in(s, c));
                 to += n as usize;
                 lines += 1;
                 at += c.end + 1;
             }
-            Checked::Not(r) => {
+            Err(r) => {
                 return Assembled::Refused(r, lines + 1);
             }
         }
@@ -112,15 +112,15 @@ fn judge(
     Assembled::Done(lines, to)
 }
 
-fn put_bits(image: &mut [u8], to: usize, e: Encoded) -> usize
+fn put_bits(image: &mut [u8], to: usize, e: Option<Encoded>) -> usize
     ensures { page image.new result ≡ write_on (bytes_in e) (page image.old to) }
 {
     match e {
-        Encoded::Half(h) => {
+        Some(Encoded::Half(h)) => {
             let bytes = [(h / 256) as u8, (h % 256) as u8];
             text::put_all(image, to, &bytes)
         }
-        Encoded::Pair(h, s) => {
+        Some(Encoded::Pair(h, s)) => {
             let bytes = [
                 (h / 256) as u8,
                 (h % 256) as u8,
@@ -129,7 +129,7 @@ fn put_bits(image: &mut [u8], to: usize, e: Encoded) -> usize
             ];
             text::put_all(image, to, &bytes)
         }
-        Encoded::Nothing => to,
+        None => to,
     }
 }
 

@@ -1,5 +1,6 @@
 -- The lines of a text, one after the other.
 -- Assumes nothing.
+use Rattle.std.specs.Prelude.{Err, Ok, Result}
 use Prim.Native.Nat.{ℕ, suc, ◌+◌, ◌%◌, ◌≤◌, ◌<◌}
 use mathlib.Core.Path.{◌≡◌, refl, ap, ◌∙◌}
 use mathlib.Core.Bool.{Bool, true, false, cond, ◌||◌}
@@ -15,7 +16,6 @@ use Rattle.expr.specs.Expr.{Labels}
 use Rattle.forms.specs.Form.{lines_of, what_in, shape_of}
 use Rattle.asm.specs.Assemble.{address_of, label_in, with_name, refused_if, room_check, go_on, verdict_of, code_of, is_outside, text_labels, verdict_in}
 use Rattle.asm.specs.declared.Refusal.{Refusal}
-use Rattle.asm.specs.declared.Checked.{Checked}
 use Rattle.asm.specs.declared.Assembled.{Assembled}
 use Rattle.assembly.specs.Assembly.{check_at, AllFine, FineThenNot, Told}
 use Rattle.assembly.proofs.Lines.{Fine, fine, line_size_lem}
@@ -27,9 +27,9 @@ address_on p n =
 
 -- ---- none refused
 
-done_fine : (c : Checked) (j i e : ℕ) (rest : Assembled) → go_on c j rest ≡ Assembled.Done i e → (c ≡ Checked.Fine) × (rest ≡ Assembled.Done i e)
-done_fine Checked.Fine j i e rest q = (refl, q)
-done_fine (Checked.Not r) j i e rest q = let z : ◌≡◌ {A = ℕ} 0 1 = cc in absurd (omega arith)
+done_fine : (c : Result Unit Refusal) (j i e : ℕ) (rest : Assembled) → go_on c j rest ≡ Assembled.Done i e → (c ≡ (Ok tt)) × (rest ≡ Assembled.Done i e)
+done_fine (Ok _) j i e rest q = (refl, q)
+done_fine (Err r) j i e rest q = let z : ◌≡◌ {A = ℕ} 0 1 = cc in absurd (omega arith)
 
 pub all_fine : (t : Labels) (s : List ℕ) (p n j i e : ℕ) (ls : List (List ℕ)) → verdict_of t s p n j ls ≡ Assembled.Done i e → AllFine t s p n ls
 unfolding verdict_of
@@ -38,11 +38,11 @@ all_fine t s p n j i e (l ∷ r) q =
     let d = done_fine (check_at t s p n l) (suc j) i e _ q in
     (d.0, all_fine t (with_name s (label_in l)) (p + (shape_of (what_in l)).size) n (suc j) i e r d.1)
 
-room_for : (p n m : ℕ) → room_check p n m ≡ Checked.Fine → p + n ≤ m
+room_for : (p n m : ℕ) → room_check p n m ≡ (Ok tt) → p + n ≤ m
 unfolding room_check
 room_for p n m e = go (ltb m (p + n)) refl e
   where
-    go : (u : Bool) → ltb m (p + n) ≡ u → refused_if u Refusal.Room ≡ Checked.Fine → p + n ≤ m
+    go : (u : Bool) → ltb m (p + n) ≡ u → refused_if u Refusal.Room ≡ (Ok tt) → p + n ≤ m
     go true f q = let z : ◌≡◌ {A = ℕ} 0 1 = cc in absurd (omega arith)
     go false f q = ltb-false m (p + n) f
 
@@ -50,7 +50,7 @@ code_none : (t : Labels) (a : ByteAddr) → length (code_of t a []) ≡ 0
 unfolding code_of
 code_none t a = refl
 
-code_step : (t : Labels) (s : List ℕ) (p n : ℕ) (l : List ℕ) (r : List (List ℕ)) → check_at t s p n l ≡ Checked.Fine
+code_step : (t : Labels) (s : List ℕ) (p n : ℕ) (l : List ℕ) (r : List (List ℕ)) → check_at t s p n l ≡ (Ok tt)
     → length (code_of t (address_of p) (l ∷ r)) ≡ (shape_of (what_in l)).size + length (code_of t (address_of (p + (shape_of (what_in l)).size)) r)
 unfolding code_of
 code_step t s p n l r e = rw (length-append, line_size_lem t s (address_of p) (room_check p (shape_of (what_in l)).size n) (what_in l) l e, address_on)
@@ -87,14 +87,14 @@ first_not t s p n j i q (l ∷ r) e = go (check_at t s p n l) refl e (first_not 
     rest : Assembled
     rest = verdict_of t (with_name s (label_in l)) (p + (shape_of (what_in l)).size) n (suc j) r
 
-    go : (c : Checked) → check_at t s p n l ≡ c → go_on c (suc j) rest ≡ Assembled.Refused q i
+    go : (c : Result Unit Refusal) → check_at t s p n l ≡ c → go_on c (suc j) rest ≡ Assembled.Refused q i
         → (rest ≡ Assembled.Refused q i → (k : ℕ) × (i ≡ suc (suc j + k)) × FineThenNot t (with_name s (label_in l)) (p + (shape_of (what_in l)).size) n k q r)
         → (k : ℕ) × (i ≡ suc (j + k)) × FineThenNot t s p n k q (l ∷ r)
-    go Checked.Fine c e f = let g = f e in let h = g.1 in (suc g.0, omega arith, (c, g.2))
-    go (Checked.Not x) c e f =
+    go (Ok _) c e f = let g = f e in let h = g.1 in (suc g.0, omega arith, (c, g.2))
+    go (Err x) c e f =
         let a : x ≡ q = cc in
         let b : suc j ≡ i = cc in
-        (0, omega arith, c ∙ ap Checked.Not a)
+        (0, omega arith, c ∙ ap Err a)
 
 -- ---- the image
 

@@ -1,5 +1,6 @@
 -- The theorems of this crate, each with its statement; read this file alone with specs/. The proofs are in the files that it cites.
 -- Assumes nothing.
+use Rattle.std.specs.Prelude.{Err, Ok, Result}
 use Prim.Native.Nat.{ℕ, ◌+◌, ◌≤◌, ◌<◌}
 use mathlib.Core.Path.{◌≡◌, sym, ap, ◌∙◌}
 use mathlib.Core.Bool.{true, false}
@@ -21,7 +22,6 @@ use Rattle.forms.specs.Says.{bytes_in}
 use Rattle.asm.specs.Assemble.{address_of, line_value, line_bits, is_set, labels_of, reply_of, line_of, end_of, line_check, room_check, value_in, line_bytes, is_outside, text_labels, Answered, answered, verdict_in, assembled_of}
 use Rattle.forms.specs.declared.What.{What}
 use Rattle.asm.specs.declared.Refusal.{Refusal}
-use Rattle.asm.specs.declared.Checked.{Checked}
 use Rattle.asm.specs.declared.Assembled.{Assembled}
 use Rattle.assembly.specs.Assembly.{Says, faults_of, Lowest, AllFine, Told, text_code, first_at}
 use Rattle.assembly.proofs.Values.{in_32_bits}
@@ -31,7 +31,7 @@ use Rattle.assembly.proofs.Order.{lowest_told}
 use Rattle.assembly.proofs.Labels.{few_labels, first_written}
 
 -- 1. A line that is not refused has a value ..
-module _ (t : Labels) (s : List ℕ) (a : ByteAddr) (y : Checked) (w : What) (l : List ℕ) (ok : line_check t s a y w l ≡ Checked.Fine) where
+module _ (t : Labels) (s : List ℕ) (a : ByteAddr) (y : Result Unit Refusal) (w : What) (l : List ℕ) (ok : line_check t s a y w l ≡ (Ok tt)) where
   f : Fine t s a y w l
   f = fine t s a y w l ok
 
@@ -117,8 +117,8 @@ pub lowest_fault : (t : Labels) (s : List ℕ) (a : ByteAddr) (p n m : ℕ) (w :
 lowest_fault = lowest_told
 
 -- .. so unknown form before all others, whatever else.
-pub form_first : (t : Labels) (s : List ℕ) (a : ByteAddr) (y : Checked) (w : What) (l : List ℕ) → is_known_as w l ≡ false
-    → line_check t s a y w l ≡ Checked.Not Refusal.Form
+pub form_first : (t : Labels) (s : List ℕ) (a : ByteAddr) (y : Result Unit Refusal) (w : What) (l : List ℕ) → is_known_as w l ≡ false
+    → line_check t s a y w l ≡ Err Refusal.Form
 unfolding line_check
 form_first t s a y w l e = rw e
 

@@ -1,5 +1,6 @@
 -- Values of expressions, as bits, have 32 of them.
 -- Assumes nothing.
+use Rattle.std.specs.Prelude.{None, Option, Some, ℕ}
 use Prim.Native.Nat.{ℕ, zero, suc, ◌+◌, ◌-◌, ◌<◌}
 use mathlib.Core.Path.{◌≡◌, refl, subst}
 use mathlib.Core.Bool.{Bool, true, false, cond, ◌||◌}
@@ -11,7 +12,6 @@ use lib.ListN.{length, get_or, take, drop}
 use lib.Signed.{lt_z}
 use borrow.Author.Tests.{ltb-true, ltb-false}
 use Rattle.text.specs.Digits.{digits_read, leading_zero}
-use Rattle.text.specs.declared.Read.{Read as Digits}
 use Rattle.expr.specs.Value.{fitted, applied, combined, signed_word, written}
 use Rattle.expr.specs.Expr.{Labels, is_letter, run_of, key_of, index_of, meaning, onward, counted, is_hex, word_read, leaf_of, joined_of, chain_of, items_of, adds, multiplies, sign_of, signed_of, closed_of, plain_with, operand_with, product_with, sum_with, inside_of, sum_of, value_of}
 use Rattle.expr.specs.declared.Read.{Read as Valued}
@@ -88,10 +88,10 @@ unfolding onward
 onward_small (Valued.Got v n) f (got p) k = k v n p
 onward_small (Valued.Not e) f p k = not
 
-counted_small : (n : ℕ) (d : Digits) → Read (counted n d)
+counted_small : (n : ℕ) (d : Option ℕ) → Read (counted n d)
 unfolding counted written
-counted_small n (Digits.Number v) = got (low v)
-counted_small n Digits.Nothing = not
+counted_small n (Some v) = got (low v)
+counted_small n None = not
 
 joined_small : (c : ℕ) (v : Value) (r : Valued) → Read (joined_of c v r)
 unfolding joined_of

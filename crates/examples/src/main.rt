@@ -6,7 +6,6 @@ ghost use Rattle.std.specs.Prelude.{◌≤◌};
 use reading::read_full;
 use script::Reader;
 use std::io;
-use text::Read;
 
 // An input's name and its count of bytes, a part of it, the line that a part's end cuts, and memory with its marks.
 #[derive(Drop)]
@@ -65,10 +64,7 @@ impl Rooms {
 
 // Where there is no count, nothing is read.
 fn count_in(count: &[u8]) -> usize {
-    match text::address(count) {
-        Read::Number(n) => n as usize,
-        Read::Nothing => 0,
-    }
+    text::address(count).map_or(0, |n| n as usize)
 }
 
 fn main(rt: HostRuntime) -> io::Result<()> {

@@ -1,6 +1,7 @@
 -- Two readings go alike: of a text, and of the same text with an end that joins nothing, by other labels and with another allowance.
 -- Once for both uses: a text is read as before where `)` follows, and its form depends neither on labels nor, but for depth, on the allowance.
 -- Assumes nothing.
+use Rattle.std.specs.Prelude.{None, Option, Some, ℕ}
 use Prim.Native.Nat.{ℕ, zero, suc, ◌+◌, ◌<◌, ◌≤◌}
 use mathlib.Core.Path.{◌≡◌, refl, ap, ap₂, ◌∙◌}
 use mathlib.Core.Bool.{Bool, true, false, cond, ◌||◌}
@@ -11,7 +12,6 @@ use borrow.Author.Tests.{eqb-true, ltb-true, ltb-false}
 use lib.ListN.{length, get_or, take, drop, length-append, length-drop, length-take, get_or-append}
 use lib.Seq.{take-append-le, drop-append-le, drop_at}
 use Rattle.text.specs.Digits.{digits_read, leading_zero}
-use Rattle.text.specs.declared.Read.{Read as Digits}
 use Rattle.expr.specs.declared.Read.{Read}
 use Rattle.expr.specs.declared.Value.{Value}
 use Rattle.expr.specs.declared.Fault.{Fault}
@@ -62,16 +62,16 @@ module _ (same : Value → Value → Type 0) (allowed : Fault → Type 0) where
     unfolding word_read counted
     word_exact w = go (is_letter (get_or w 0 0)) (leb (length w) 12) (is_hex w) (eqb (length w) 0 || leading_zero w) (digits_read 16 0 (drop 2 w)) (digits_read 10 0 w)
       where
-        go : (a b c d : Bool) (x y : Digits)
+        go : (a b c d : Bool) (x y : Option ℕ)
             → exact (length w) (cond a (cond b (Read.Got (meaning t (key_of w)) (length w)) (Read.Not Fault.Form)) (cond c (counted (length w) x) (cond d (Read.Not Fault.Form) (counted (length w) y))))
             (cond a (cond b (Read.Got (meaning u (key_of w)) (length w)) (Read.Not Fault.Form)) (cond c (counted (length w) x) (cond d (Read.Not Fault.Form) (counted (length w) y))))
         go true true c d x y = (meant (key_of w), refl, refl)
         go true false c d x y = tt
-        go false b true d (Digits.Number n) y = (self (written n), refl, refl)
-        go false b true d Digits.Nothing y = tt
+        go false b true d (Some n) y = (self (written n), refl, refl)
+        go false b true d None y = tt
         go false b false true x y = tt
-        go false b false false x (Digits.Number n) = (self (written n), refl, refl)
-        go false b false false x Digits.Nothing = tt
+        go false b false false x (Some n) = (self (written n), refl, refl)
+        go false b false false x None = tt
 
     run_same : (s : List ℕ) → run_of (s ++ end) ≡ run_of s
     unfolding run_of

@@ -3,9 +3,8 @@
 -- A text is read from its front; the answer is a value and how many bytes it took, or the first fault of its form.
 -- Recursion: `inside_of` on the parentheses that may still open, `chain_of` on the text. No fuel.
 -- Assumes nothing.
-use Rattle.std.specs.Prelude.{ℕ, zero, suc, ◌+◌, ◌-◌, ◌*◌, Bool, false, cond, ◌&&◌, ◌||◌, List, [], ◌∷◌, ltb, leb, eqb, length, get_or, take, drop}
+use Rattle.std.specs.Prelude.{ℕ, zero, suc, ◌+◌, ◌-◌, ◌*◌, Bool, false, cond, ◌&&◌, ◌||◌, List, [], ◌∷◌, ltb, leb, eqb, length, get_or, take, drop, None, Option, Some}
 use Rattle.text.specs.Digits.{digits_read, leading_zero}
-use Rattle.text.specs.declared.Read.{Read as Digits}
 use Rattle.expr.specs.declared.Value.{Value}
 use Rattle.expr.specs.declared.Fault.{Fault}
 use Rattle.expr.specs.declared.Read.{Read}
@@ -72,9 +71,9 @@ onward (Read.Not e) f = Read.Not e
 
 -- ---- number or label: the letters and digits that lead, as one word
 
-unfoldable pub counted : ℕ → Digits → Read
-counted n (Digits.Number v) = Read.Got (written v) n
-counted n Digits.Nothing = Read.Not Fault.Form
+unfoldable pub counted : ℕ → Option ℕ → Read
+counted n (Some v) = Read.Got (written v) n
+counted n None = Read.Not Fault.Form
 
 abbrev pub is_hex : List ℕ → Bool
 is_hex w = ltb 2 (length w) && eqb (get_or w 0 0) 48 && eqb (get_or w 1 0) 120

@@ -56,54 +56,54 @@ fn words_to(at: ByteAddr, v: u32) -> u32
     UNFIT
 }
 
-fn says(k: Kind, at: ByteAddr, x: u32, y: u32, z: u32, v: u32) -> Decoded
+fn says(k: Kind, at: ByteAddr, x: u32, y: u32, z: u32, v: u32) -> Option<Decoded>
     ensures { result ≡ says_of k at x y z v }
 {
     match k {
-        Kind::Nothing => Decoded::Nothing,
-        Kind::Alu(op) => Decoded::Short(Instr::Alu(op, x, y)),
-        Kind::ShiftImm(op) => Decoded::Short(Instr::ShiftImm(op, x, v)),
-        Kind::Cmp(op) => Decoded::Short(Instr::Cmp(op, x, y)),
-        Kind::CmpImm(op) => Decoded::Short(Instr::CmpImm(op, x, v)),
-        Kind::Cond(op, t) => Decoded::Short(Instr::Cond(op, t, x, y)),
-        Kind::CondImm(t) => Decoded::Short(Instr::CondImm(t, x, v)),
-        Kind::Ldrpc => Decoded::Short(Instr::Ldrpc(x, words_to(at, v))),
-        Kind::Imm(op) => Decoded::Short(Instr::Imm(op, x, v)),
-        Kind::Load(w) => Decoded::Short(Instr::Load(w, x, scale(w, v), z)),
-        Kind::Store(w) => Decoded::Short(Instr::Store(w, x, scale(w, v), z)),
-        Kind::Mfsfr => Decoded::Short(Instr::Mfsfr(x, y)),
-        Kind::Mtsfr => Decoded::Short(Instr::Mtsfr(x, y)),
-        Kind::Jr => Decoded::Short(Instr::Jr(x)),
-        Kind::Jrl => Decoded::Short(Instr::Jrl(x)),
-        Kind::Jsfr => Decoded::Short(Instr::Jsfr(x)),
-        Kind::Swint => Decoded::Short(Instr::Swint(v)),
-        Kind::ShortJump(op) => Decoded::Short(Instr::ShortJump(op, halves_to(at, v))),
-        Kind::LongJump(op) => Decoded::Long(Instr::LongJump(op, halves_to(at, v))),
+        Kind::Nothing => None,
+        Kind::Alu(op) => Some(Decoded::Short(Instr::Alu(op, x, y))),
+        Kind::ShiftImm(op) => Some(Decoded::Short(Instr::ShiftImm(op, x, v))),
+        Kind::Cmp(op) => Some(Decoded::Short(Instr::Cmp(op, x, y))),
+        Kind::CmpImm(op) => Some(Decoded::Short(Instr::CmpImm(op, x, v))),
+        Kind::Cond(op, t) => Some(Decoded::Short(Instr::Cond(op, t, x, y))),
+        Kind::CondImm(t) => Some(Decoded::Short(Instr::CondImm(t, x, v))),
+        Kind::Ldrpc => Some(Decoded::Short(Instr::Ldrpc(x, words_to(at, v)))),
+        Kind::Imm(op) => Some(Decoded::Short(Instr::Imm(op, x, v))),
+        Kind::Load(w) => Some(Decoded::Short(Instr::Load(w, x, scale(w, v), z))),
+        Kind::Store(w) => Some(Decoded::Short(Instr::Store(w, x, scale(w, v), z))),
+        Kind::Mfsfr => Some(Decoded::Short(Instr::Mfsfr(x, y))),
+        Kind::Mtsfr => Some(Decoded::Short(Instr::Mtsfr(x, y))),
+        Kind::Jr => Some(Decoded::Short(Instr::Jr(x))),
+        Kind::Jrl => Some(Decoded::Short(Instr::Jrl(x))),
+        Kind::Jsfr => Some(Decoded::Short(Instr::Jsfr(x))),
+        Kind::Swint => Some(Decoded::Short(Instr::Swint(v))),
+        Kind::ShortJump(op) => Some(Decoded::Short(Instr::ShortJump(op, halves_to(at, v)))),
+        Kind::LongJump(op) => Some(Decoded::Long(Instr::LongJump(op, halves_to(at, v)))),
     }
 }
 
-fn bits_said(d: Decoded) -> Encoded
+fn bits_said(d: Option<Decoded>) -> Option<Encoded>
     ensures { result ≡ bits_said d }
 {
     match d {
-        Decoded::Short(i) => isa::encode(i),
-        Decoded::Long(i) => isa::encode(i),
-        Decoded::Nothing => Encoded::Nothing,
+        Some(Decoded::Short(i)) => isa::encode(i),
+        Some(Decoded::Long(i)) => isa::encode(i),
+        None => None,
     }
 }
 
-pub fn bits_at(w: What, at: ByteAddr, x: u32, y: u32, z: u32, v: u32) -> Encoded
+pub fn bits_at(w: What, at: ByteAddr, x: u32, y: u32, z: u32, v: u32) -> Option<Encoded>
     ensures { result ≡ bits_at w at x y z v }
 {
     match w {
         What::Code(k) => bits_said(says(k, at, x, y, z, v)),
         What::Half => {
             if v < 65536 {
-                Encoded::Half(v as u16)
+                Some(Encoded::Half(v as u16))
             } else {
-                Encoded::Nothing
+                None
             }
         }
-        What::Word => Encoded::Pair((v / 65536) as u16, (v % 65536) as u16),
+        What::Word => Some(Encoded::Pair((v / 65536) as u16, (v % 65536) as u16)),
     }
 }

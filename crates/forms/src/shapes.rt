@@ -138,12 +138,12 @@ pub fn shape_of(w: What) -> Shape
     }
 }
 
-fn below_limit(limit: u32, n: text::Read) -> u32
+fn below_limit(limit: u32, n: Option<u32>) -> u32
     ensures { result ≡ below limit n }
 {
     match n {
-        text::Read::Number(v) => { if v < limit { v } else { limit } }
-        text::Read::Nothing => limit,
+        Some(v) => { if v < limit { v } else { limit } }
+        None => limit,
     }
 }
 

@@ -36,19 +36,6 @@ pub enum Halt {
     DataOutside,
 }
 
-#[derive(Clone, Copy)]
-pub enum Fetched {
-    Halted(Halt),
-    Run(Instr),
-}
-
-// Half an instruction, or why it cannot be read.
-#[derive(Clone, Copy)]
-pub enum Half {
-    Halted(Halt),
-    Bits(u16),
-}
-
 // What an instruction reaches beside the registers: memory, or the entry of a swint.
 #[derive(Clone, Copy)]
 pub enum Reach {
@@ -56,13 +43,6 @@ pub enum Reach {
     Reads(Width, ByteAddr),
     Writes(Width, ByteAddr),
     Raises(u32),
-}
-
-// One instruction: it is not done, or has an effect, marks, and a place that it reaches.
-#[derive(Clone, Copy)]
-pub enum Act {
-    Halted(Halt),
-    Does(Effect, Taint, Reach),
 }
 
 // Document 01's numbers.
@@ -82,3 +62,6 @@ pub fn number(r: Reply) -> u32
         Reply::MarkedOperand => 14,
     }
 }
+
+// One instruction: its effect, its marks and the place that it reaches, or why it is not done.
+pub type Act = Result<(Effect, Taint, Reach), Halt>;

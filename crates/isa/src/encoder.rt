@@ -119,49 +119,49 @@ fn long_no(op: LongOp) -> u32
     }
 }
 
-fn when(t: bool, e: Encoded) -> Encoded
+fn when(t: bool, e: Option<Encoded>) -> Option<Encoded>
     ensures { result ≡ only t e }
 {
-    if t { e } else { Encoded::Nothing }
+    if t { e } else { None }
 }
 
-fn nibs(a: u32, b: u32, c: u32, d: u32) -> Encoded
+fn nibs(a: u32, b: u32, c: u32, d: u32) -> Option<Encoded>
     ensures { result ≡ nibs_of a b c d }
 {
     if 16 <= a {
-        return Encoded::Nothing;
+        return None;
     }
     if 16 <= b {
-        return Encoded::Nothing;
+        return None;
     }
     if 16 <= c {
-        return Encoded::Nothing;
+        return None;
     }
     if 16 <= d {
-        return Encoded::Nothing;
+        return None;
     }
-    Encoded::Half((a * 4096 + b * 256 + c * 16 + d) as u16)
+    Some(Encoded::Half((a * 4096 + b * 256 + c * 16 + d) as u16))
 }
 
-fn nibs_signed(b: u32, c: u32, x: u32) -> Encoded
+fn nibs_signed(b: u32, c: u32, x: u32) -> Option<Encoded>
     ensures { result ≡ nibs_signed b c x }
 {
     when(word::fits(4, x), nibs(3, b, c, x % 16))
 }
 
-fn nibs_byte(a: u32, c: u32, n: u32) -> Encoded
+fn nibs_byte(a: u32, c: u32, n: u32) -> Option<Encoded>
     ensures { result ≡ nibs_byte a c n }
 {
     when(n < 256, nibs(a, n / 16, c, n % 16))
 }
 
-fn nibs_signed_byte(a: u32, c: u32, x: u32) -> Encoded
+fn nibs_signed_byte(a: u32, c: u32, x: u32) -> Option<Encoded>
     ensures { result ≡ nibs_signed_byte a c x }
 {
     when(word::fits(8, x), nibs_byte(a, c, x % 256))
 }
 
-fn encode_imm(op: ImmOp, c: u32, x: u32) -> Encoded
+fn encode_imm(op: ImmOp, c: u32, x: u32) -> Option<Encoded>
     ensures { result ≡ encode_imm op c x }
 {
     match op {
@@ -171,15 +171,15 @@ fn encode_imm(op: ImmOp, c: u32, x: u32) -> Encoded
     }
 }
 
-fn encode_short(op: ShortOp, d: HalfDisp) -> Encoded
+fn encode_short(op: ShortOp, d: HalfDisp) -> Option<Encoded>
     ensures { result ≡ encode_short op d }
 {
     let x = d.0;
     let bits = short_no(op) * 1024 + x % 1024;
-    when(word::fits(10, x), Encoded::Half(bits as u16))
+    when(word::fits(10, x), Some(Encoded::Half(bits as u16)))
 }
 
-fn encode_long(op: LongOp, d: HalfDisp) -> Encoded
+fn encode_long(op: LongOp, d: HalfDisp) -> Option<Encoded>
     ensures { result ≡ encode_long op d }
 {
     let x = d.0;
@@ -187,11 +187,11 @@ fn encode_long(op: LongOp, d: HalfDisp) -> Encoded
     let first = long_no(op) * 1024 + bits / 65536;
     when(
         word::fits(26, x),
-        Encoded::Pair(first as u16, (bits % 65536) as u16),
+        Some(Encoded::Pair(first as u16, (bits % 65536) as u16)),
     )
 }
 
-pub fn encode(i: Instr) -> Encoded
+pub fn encode(i: Instr) -> Option<Encoded>
     ensures { result ≡ encode_of i }
 {
     match i {

@@ -149,12 +149,10 @@ pub enum Kind {
 pub enum Decoded {
     Short(Instr),
     Long(Instr),
-    Nothing,
 }
 
 #[derive(Clone, Copy)]
 pub enum Encoded {
     Half(u16),
     Pair(u16, u16),
-    Nothing,
 }

@@ -39,39 +39,39 @@ fn second_in(image: &[u8], at: ByteAddr, first: u16) -> u16
     0
 }
 
-fn cut(end: usize, at: ByteAddr, d: Decoded) -> Decoded
+fn cut(end: usize, at: ByteAddr, d: Option<Decoded>) -> Option<Decoded>
     ensures { result ≡ cut_by end at d }
 {
     match d {
-        Decoded::Short(i) => Decoded::Short(i),
-        Decoded::Long(i) => {
+        Some(Decoded::Short(i)) => Some(Decoded::Short(i)),
+        Some(Decoded::Long(i)) => {
             let next = at.0 as usize + 4;
             if next <= end {
-                Decoded::Long(i)
+                Some(Decoded::Long(i))
             } else {
-                Decoded::Nothing
+                None
             }
         }
-        Decoded::Nothing => Decoded::Nothing,
+        None => None,
     }
 }
 
-fn shown(at: ByteAddr, first: u16, d: Decoded) -> Shown
+fn shown(at: ByteAddr, first: u16, d: Option<Decoded>) -> Shown
     ensures { result ≡ shown_of at first d }
 {
     match d {
-        Decoded::Short(i) => Shown {
+        Some(Decoded::Short(i)) => Shown {
             long: false,
             place: place_of(first),
             row: row_of(at, i),
         },
-        Decoded::Long(i) => Shown {
+        Some(Decoded::Long(i)) => Shown {
             long: true,
             place: place_of(first),
             row: row_of(at, i),
         },
         // `half` stands in the table's last place, which no instruction has.
-        Decoded::Nothing => Shown {
+        None => Shown {
             long: false,
             place: 81,
             row: Row::One(Operand::Bits(first)),

@@ -4,28 +4,28 @@ ghost use Rattle.listing.specs.Listing.{listing_of};
 ghost use Rattle.listing.specs.Lent.{is_out_of, number_of, length_of, answered, listed_of};
 ghost use Rattle.listing.specs.Parts.{Good, Kept};
 
-use crate::Listed;
 use crate::lines::{entry_at, put_entry, size};
 use crate::names::table;
 use word::ByteAddr;
+use crate::Refusal;
 
-pub fn number(r: Listed) -> u32
+pub fn number(r: Result<usize, Refusal>) -> u32
     ensures { result ≡ number_of r }
 {
     match r {
-        Listed::Done(_) => 0,
-        Listed::OutOfImage => 20,
-        Listed::NoRoom => 21,
+        Ok(_) => 0,
+        Err(Refusal::OutOfImage) => 20,
+        Err(Refusal::NoRoom) => 21,
     }
 }
 
-pub fn length(r: Listed) -> usize
+pub fn length(r: Result<usize, Refusal>) -> usize
     ensures { result ≡ length_of r }
 {
     match r {
-        Listed::Done(n) => n,
-        Listed::OutOfImage => 0,
-        Listed::NoRoom => 0,
+        Ok(n) => n,
+        Err(Refusal::OutOfImage) => 0,
+        Err(Refusal::NoRoom) => 0,
     }
 }
 
@@ -88,14 +88,14 @@ fn is_short(room: usize, image: &[u8], start: usize, end: usize) -> bool
     room < put_lines(&mut line, image, start as u32, end, false)
 }
 
-pub fn list(image: &[u8], start: usize, end: usize, out: &mut [u8]) -> Listed
+pub fn list(image: &[u8], start: usize, end: usize, out: &mut [u8]) -> Result<usize, Refusal>
     ensures { answered result out.new ≡ listed_of image.now start end out.old }
 {
     if is_out_of(image.len(), start, end) {
-        return Listed::OutOfImage;
+        return Err(Refusal::OutOfImage);
     }
     if is_short(out.len(), image, start, end) {
-        return Listed::NoRoom;
+        return Err(Refusal::NoRoom);
     }
-    Listed::Done(put_lines(out, image, start as u32, end, true))
+    Ok(put_lines(out, image, start as u32, end, true))
 }

@@ -35,7 +35,6 @@ pub enum Event {
 // The start of a step: its fetch is not done, it is an entry with the control part after it, or it is the instruction whose first half has these bytes.
 #[derive(Clone, Copy)]
 pub enum Begun {
-    Halted(Halt),
     Enter(Control),
     Half(u8, u8),
 }
@@ -50,38 +49,12 @@ pub struct Done {
     pub mark: bool,
 }
 
-// What comes of an instruction that is not done: a stop, or a bus error with the control part after it.
-#[derive(Clone, Copy)]
-pub enum Halted {
-    Stop(Reply),
-    Enter(Control),
-}
-
-#[derive(Clone, Copy)]
-pub enum Out {
-    Halted(Halt),
-    Go(Done),
-}
-
-// The aligned address of a load or store.
-#[derive(Clone, Copy)]
-pub enum Data {
-    Nowhere,
-    At(ByteAddr),
-}
-
 // What a completed step shows: the program counter before it, the entry that it made, and the data address that it reached.
 #[derive(Clone, Copy)]
 pub struct Line {
     pub pc: ByteAddr,
     pub entry: Entry,
-    pub address: Data,
-}
-
-#[derive(Clone, Copy)]
-pub enum Judged {
-    Refused(Reply),
-    Good,
+    pub address: Option<ByteAddr>,
 }
 
 #[derive(Clone, Copy)]

@@ -4,7 +4,7 @@ ghost use Rattle.marks.specs.Memory.{bits};
 ghost use Rattle.machine.specs.State.{out_of_form};
 ghost use Rattle.machine.specs.Run.{bad_length, judge};
 
-use crate::{Judged, State};
+use crate::State;
 use cpu::Control;
 use instruction::Reply;
 
@@ -29,28 +29,28 @@ fn is_out_of_form(c: Control) -> bool
     word::either(word::either(low, high), late)
 }
 
-pub fn judge_all(b: usize, t: &[u8], s: State, m: &[u8], k: &[u8]) -> Judged
+pub fn judge_all(b: usize, t: &[u8], s: State, m: &[u8], k: &[u8]) -> Result<(), Reply>
     ensures { result ≡ judge b t.now s m.now (bits k.now) }
 {
     if is_bad_length(m.len()) {
-        return Judged::Refused(Reply::MemoryLength);
+        return Err(Reply::MemoryLength);
     }
     let n = m.len();
     if marks::memory::is_bad_room(n, k) {
-        return Judged::Refused(Reply::MarkLength);
+        return Err(Reply::MarkLength);
     }
     if marks::memory::has_bad_mark(n, k) {
-        return Judged::Refused(Reply::MarkPastEnd);
+        return Err(Reply::MarkPastEnd);
     }
     let c = s.control;
     if is_out_of_form(c) {
-        return Judged::Refused(Reply::Form);
+        return Err(Reply::Form);
     }
     if t.len() < b {
-        return Judged::Refused(Reply::TapeLength);
+        return Err(Reply::TapeLength);
     }
     if word::has_above(63, &t[..b]) {
-        return Judged::Refused(Reply::TapeByte);
+        return Err(Reply::TapeByte);
     }
-    Judged::Good
+    Ok(())
 }

@@ -8,7 +8,7 @@ ghost use Rattle.machine.specs.Parts.{state_of};
 use crate::refusals::judge_all;
 use crate::registers::{put_mark, put_value};
 use crate::step::{begin, halt, low_byte, make_step};
-use crate::{Ended, Halted, Judged, Out, State};
+use crate::{Ended, State};
 use cpu::Control;
 use instruction::Reply;
 use marks::Flags;
@@ -68,19 +68,19 @@ fn steps(b: usize, t: &[u8], s: State, m: &mut [u8], k: &mut [u8]) -> Ended
             g, regs[i], marks[i], regs[j], marks[j], tf, cy, control, m, k,
         );
         match out {
-            Out::Halted(h) => {
+            Err(h) => {
                 let x = halt(h, control);
                 match x {
-                    Halted::Stop(reply) => {
+                    Err(reply) => {
                         return end_at(regs, marks, tf, cy, control, n, reply);
                     }
-                    Halted::Enter(e) => {
+                    Ok(e) => {
                         control = e;
                         n += 1;
                     }
                 }
             }
-            Out::Go(d) => {
+            Ok(d) => {
                 let c = d.control;
                 tf = d.flags.tf;
                 cy = d.flags.cy;
@@ -110,12 +110,12 @@ pub fn run(b: usize, t: &[u8], s: State, m: &mut [u8], k: &mut [u8]) -> Ended
 {
     let j = judge_all(b, t, s, m, k);
     match j {
-        Judged::Refused(reply) => Ended {
+        Err(reply) => Ended {
             state: s,
             steps: 0,
             reply,
             cycles: s.control.cycles,
         },
-        Judged::Good => steps(b, t, s, m, k),
+        Ok(()) => steps(b, t, s, m, k),
     }
 }

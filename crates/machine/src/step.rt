@@ -10,35 +10,35 @@ ghost use Rattle.machine.specs.Parts.{halted_to, begun_of, act_out, act_mem, act
 ghost use Rattle.machine.specs.declared.Begun.{Begun};
 
 use crate::choice::choose;
-use crate::{Begun, Done, Event, Halted, Out};
+use crate::{Begun, Done, Event};
 use cpu::{Control, Effect, Entry};
-use instruction::{Act, Fetched, Half, Halt, Reach, Reply};
+use instruction::{Act, Halt, Reach, Reply};
 use marks::{Flags, Taint};
 use word::ByteAddr;
 
-fn enter(e: Entry, c: Control) -> Begun
-    ensures { result ≡ Begun.Enter (passed (on c.psw 4) (entry_cost e) (entered e c)) }
+fn enter(e: Entry, c: Control) -> Result<Begun, Halt>
+    ensures { result ≡ Ok (Begun.Enter (passed (on c.psw 4) (entry_cost e) (entered e c))) }
 {
     let cost = cpu::entry_cost(e) as u32;
-    Begun::Enter(cpu::pass(word::is_on(c.psw, 4), cost, cpu::enter(e, c)))
+    Ok(Begun::Enter(cpu::pass(word::is_on(c.psw, 4), cost, cpu::enter(e, c))))
 }
 
 // What comes of an instruction that is not done, from control part c on.
-pub fn halt(h: Halt, c: Control) -> Halted
+pub fn halt(h: Halt, c: Control) -> Result<Control, Reply>
     ensures { result ≡ halted_to h c }
 {
     let te = word::is_on(c.psw, 4);
     match h {
-        Halt::FetchOutside => Halted::Enter(cpu::pass(te, 4, cpu::fetch_error(c))),
-        Halt::FetchMarked => Halted::Stop(Reply::FetchMarked),
-        Halt::NoInstruction => Halted::Stop(Reply::NoInstruction),
-        Halt::MarkedOperand => Halted::Stop(Reply::MarkedOperand),
-        Halt::DataOutside => Halted::Enter(cpu::pass(te, 4, cpu::data_error(c))),
+        Halt::FetchOutside => Ok(cpu::pass(te, 4, cpu::fetch_error(c))),
+        Halt::FetchMarked => Err(Reply::FetchMarked),
+        Halt::NoInstruction => Err(Reply::NoInstruction),
+        Halt::MarkedOperand => Err(Reply::MarkedOperand),
+        Halt::DataOutside => Ok(cpu::pass(te, 4, cpu::data_error(c))),
     }
 }
 
 // All of a step that no register takes part in.
-pub fn begin(t: u32, c: Control, m: &[u8], mk: &[u8]) -> Begun
+pub fn begin(t: u32, c: Control, m: &[u8], mk: &[u8]) -> Result<Begun, Halt>
     ensures { result ≡ begun_of t c m.now (bits mk.now) }
 {
     let e = choose(t, c);
@@ -47,8 +47,8 @@ pub fn begin(t: u32, c: Control, m: &[u8], mk: &[u8]) -> Begun
         Event::Instruction => {
             let f = instruction::fetch::first_half(ByteAddr(c.pc), m, mk);
             match f {
-                Half::Halted(h) => Begun::Halted(h),
-                Half::Bits(h) => Begun::Half((h / 256) as u8, (h % 256) as u8),
+                Err(h) => Err(h),
+                Ok(h) => Ok(Begun::Half((h / 256) as u8, (h % 256) as u8)),
             }
         }
     }
@@ -122,16 +122,16 @@ fn write_at(r: Reach, u: u32, mu: bool, m: &mut [u8], mk: &mut [u8])
     }
 }
 
-fn act_step(a: Act, u: u32, mu: bool, c: Control, m: &mut [u8], mk: &mut [u8]) -> Out
+fn act_step(a: Act, u: u32, mu: bool, c: Control, m: &mut [u8], mk: &mut [u8]) -> Result<Done, Halt>
     ensures value { result ≡ act_out a c }
     ensures m_after { m.new ≡ act_mem a (val u mu) m.old }
     ensures mk_after { bits mk.new ≡ act_marks a (val u mu) (bits mk.old) }
 {
     match a {
-        Act::Halted(h) => Out::Halted(h),
-        Act::Does(e, t, r) => {
+        Err(h) => Err(h),
+        Ok((e, t, r)) => {
             write_at(r, u, mu, m, mk);
-            Out::Go(finish(c, e, t, r))
+            Ok(finish(c, e, t, r))
         }
     }
 }
@@ -150,7 +150,7 @@ fn half_step(
     c: Control,
     m: &mut [u8],
     mk: &mut [u8],
-) -> Out
+) -> Result<Done, Halt>
     ensures value { result ≡ act_out (half_act hi lo (val u mu) (val v mv) (flags tf cy) c m.old (bits mk.old)) c }
     ensures m_after { m.new ≡ act_mem (half_act hi lo (val u mu) (val v mv) (flags tf cy) c m.old (bits mk.old)) (val u mu) m.old }
     ensures mk_after { bits mk.new ≡ act_marks (half_act hi lo (val u mu) (val v mv) (flags tf cy) c m.old (bits mk.old)) (val u mu) (bits mk.old) }
@@ -158,8 +158,8 @@ fn half_step(
     let kind = isa::kind_of(hi);
     let f = instruction::fetch::rest_at(kind, hi as u16 * 256 + lo as u16, ByteAddr(c.pc), m, mk);
     match f {
-        Fetched::Halted(h) => Out::Halted(h),
-        Fetched::Run(i) => {
+        Err(h) => Err(h),
+        Ok(i) => {
             let a = instruction::classes::act_on(i, u, mu, v, mv, tf, cy, c, m, mk);
             act_step(a, u, mu, c, m, mk)
         }
@@ -167,19 +167,19 @@ fn half_step(
 }
 
 // The byte that names the registers that are read; any would do where no instruction is made.
-pub fn low_byte(g: Begun) -> u8
+pub fn low_byte(g: Result<Begun, Halt>) -> u8
     ensures { result ≡ low_byte g }
 {
     match g {
-        Begun::Halted(_) => 0,
-        Begun::Enter(_) => 0,
-        Begun::Half(_, lo) => lo,
+        Err(_) => 0,
+        Ok(Begun::Enter(_)) => 0,
+        Ok(Begun::Half(_, lo)) => lo,
     }
 }
 
 // The rest of a step from its start on, with the registers that the low byte names. An entry writes no register.
 pub fn make_step(
-    g: Begun,
+    g: Result<Begun, Halt>,
     u: u32,
     mu: bool,
     v: u32,
@@ -189,20 +189,20 @@ pub fn make_step(
     c: Control,
     m: &mut [u8],
     mk: &mut [u8],
-) -> Out
+) -> Result<Done, Halt>
     ensures value { result ≡ begun_out g (val u mu) (val v mv) (flags tf cy) c m.old (bits mk.old) }
     ensures m_after { m.new ≡ begun_mem g (val u mu) (val v mv) (flags tf cy) c m.old (bits mk.old) }
     ensures mk_after { bits mk.new ≡ begun_marks g (val u mu) (val v mv) (flags tf cy) c m.old (bits mk.old) }
 {
     match g {
-        Begun::Halted(h) => Out::Halted(h),
-        Begun::Enter(control) => Out::Go(Done {
+        Err(h) => Err(h),
+        Ok(Begun::Enter(control)) => Ok(Done {
             control,
             flags: Flags { tf, cy },
             reg: cpu::NO_REG,
             value: 0,
             mark: false,
         }),
-        Begun::Half(hi, lo) => half_step(hi, lo, u, mu, v, mv, tf, cy, c, m, mk),
+        Ok(Begun::Half(hi, lo)) => half_step(hi, lo, u, mu, v, mv, tf, cy, c, m, mk),
     }
 }

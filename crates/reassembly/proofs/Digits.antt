@@ -1,5 +1,6 @@
 -- Words of digits are read whole.
 -- Assumes nothing.
+use Rattle.std.specs.Prelude.{Some}
 use Prim.Native.Nat.{ℕ, zero, suc, ◌+◌, ◌/◌, ◌%◌, ◌^◌, ◌<◌, ◌≤◌}
 use mathlib.Core.Path.{◌≡◌, refl, ap, ◌∙◌}
 use mathlib.Core.Bool.{Bool, true, false, cond, ◌&&◌, ◌||◌}
@@ -11,7 +12,6 @@ use lib.Seq.{take-length}
 use borrow.Author.Tests.{ltb-true, ltb-false, lt-ltb, le-leb, leb-true, lt-leb, ne_eqb}
 use Rattle.isa.proofs.Rows.{and_left, and_right}
 use Rattle.text.specs.Digits.{glyph_of, digits_read, digits_of, zeros_of, leading_zero, decimal_text, half_text}
-use Rattle.text.specs.declared.Read.{Read as Digits}
 use Rattle.text.specs.Words.{ascii}
 use Rattle.text.proofs.Theorems.{digits_length, read_decimal, read_written, unled, decimal_some}
 use Rattle.listing.proofs.Laws.{half_digits}
@@ -76,7 +76,7 @@ unfolding are_digits
 digit_first [] e h = absurd (omega arith)
 digit_first (c ∷ l) e h = digit_low c (and_left (is_digit c) (are_digits l) e)
 
-word_digits : (t : Labels) (l : List ℕ) (v : ℕ) → are_digits l ≡ true → 0 < length l → leading_zero l ≡ false → digits_read 10 0 l ≡ Digits.Number v
+word_digits : (t : Labels) (l : List ℕ) (v : ℕ) → are_digits l ≡ true → 0 < length l → leading_zero l ≡ false → digits_read 10 0 l ≡ Some v
     → word_read t l ≡ Read.Got (written v) (length l)
 unfolding word_read counted
 word_digits t l v e h z r =

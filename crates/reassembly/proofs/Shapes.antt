@@ -1,5 +1,6 @@
 -- Lines of one, two and three operands: their form, their value and their bits.
 -- Assumes nothing.
+use Rattle.std.specs.Prelude.{Option}
 use Prim.Native.Nat.{ℕ, ◌<◌, ◌^◌}
 use mathlib.Core.Path.{◌≡◌, refl, sym, subst}
 use mathlib.Core.Bool.{true}
@@ -76,7 +77,7 @@ bits_says h l = says_half h l
 -- ---- lines
 
 -- a line without its newline, that names w, has the value v and the bits x at a
-pub record Back (t : Labels) (a : ByteAddr) (w : What) (b : List ℕ) (v : ℕ) (x : Encoded) : Type 0 where
+pub record Back (t : Labels) (a : ByteAddr) (w : What) (b : List ℕ) (v : ℕ) (x : Option Encoded) : Type 0 where
   pub fits : fits_shape (shape_of w) b ≡ true
   pub value : ℤ
   pub size : ℕ
@@ -84,7 +85,7 @@ pub record Back (t : Labels) (a : ByteAddr) (w : What) (b : List ℕ) (v : ℕ) 
   pub number : bits_of value ≡ v
   pub bits : line_bits w a b value ≡ x
 
-module _ (t : Labels) (a : ByteAddr) (w : What) (d : Encoded) (nm : List ℕ) (hn : is_plain nm ≡ true) (n : ℕ) (z : ℤ) (size i : ℕ) (hz : bits_of z ≡ i) where
+module _ (t : Labels) (a : ByteAddr) (w : What) (d : Option Encoded) (nm : List ℕ) (hn : is_plain nm ≡ true) (n : ℕ) (z : ℤ) (size i : ℕ) (hz : bits_of z ≡ i) where
   abbrev pub body : Row → List ℕ
   body r = 9 ∷ (nm ++ row_text r)
 

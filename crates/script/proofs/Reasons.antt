@@ -1,5 +1,6 @@
 -- A bad line, and no other, has a reason.
 -- Assumes nothing.
+use Rattle.std.specs.Prelude.{None, Option, Some, ℕ}
 use Prim.Native.Nat.{ℕ, zero, suc, ◌+◌, ◌*◌, ◌/◌, ◌%◌, ◌<◌, ◌≤◌}
 use mathlib.Core.Path.{◌≡◌, refl, sym, ap, ◌∙◌}
 use mathlib.Core.Bool.{Bool, true, false, cond, not, ◌&&◌, ◌||◌}
@@ -10,7 +11,6 @@ use lib.ListN.{length, get_or}
 use borrow.Author.Tests.{ltb-true, ltb-false, lt-ltb, le-ltb, le-leb, leb-true, leb-false, eqb-true, ne_eqb}
 use Rattle.text.specs.Digits.{value_of, digits_read, digits_in, leading_zero, decimal_of, address_of, are_hex}
 use Rattle.text.specs.Fields.{before_of, beyond_of, same_of}
-use Rattle.text.specs.declared.Read.{Read}
 use Rattle.marks.specs.Memory.{Marks}
 use Rattle.script.specs.Line.{told, size_of, budget_of, is_even, are_bytes, put_of, count_of, mark_of, first_of, body_of, line_of, word_mem, word_at, word_mark, word_run}
 use Rattle.script.specs.Fault.{good, found, letters_in, bad_digits, bad_address, decimal_fault, address_fault, bytes_fault, limit_fault, away_fault, count_fault, number_fault, put_fault, mark_fault, first_fault, body_fault, fault_of}
@@ -21,9 +21,9 @@ use Rattle.script.specs.declared.Reason.{Reason}
 
 -- ---- digits that lead a field, and the number that they write
 
-abbrev is_number : Read → Bool
-is_number Read.Nothing = false
-is_number (Read.Number n) = true
+abbrev is_number : Option ℕ → Bool
+is_number None = false
+is_number (Some n) = true
 
 digits_few : (b n : ℕ) (l : List ℕ) → (digits_in b n l ≤ n) × (digits_in b n l ≤ length l)
 unfolding digits_in
@@ -44,7 +44,7 @@ digits_all b (suc n) v [] e h = refl
 digits_all b zero v (c ∷ l) e h = absurd (omega arith)
 digits_all b (suc n) v (c ∷ l) e h = go (ltb (value_of c) b) e (λ q. digits_all b n (v * b + value_of c) l q (omega arith))
   where
-    go : (t : Bool) → is_number (cond t (digits_read b (v * b + value_of c) l) Read.Nothing) ≡ true
+    go : (t : Bool) → is_number (cond t (digits_read b (v * b + value_of c) l) None) ≡ true
         → (is_number (digits_read b (v * b + value_of c) l) ≡ true → digits_in b n l ≡ length l)
         → cond t (suc (digits_in b n l)) 0 ≡ suc (length l)
     go true q i = ap suc (i q)
@@ -58,7 +58,7 @@ digits_read_lem b (suc n) v (c ∷ l) h = go (ltb (value_of c) b) h (digits_read
   where
     go : (t : Bool) → suc (length l) ≤ cond t (suc (digits_in b n l)) 0
         → (length l ≤ digits_in b n l → is_number (digits_read b (v * b + value_of c) l) ≡ true)
-        → is_number (cond t (digits_read b (v * b + value_of c) l) Read.Nothing) ≡ true
+        → is_number (cond t (digits_read b (v * b + value_of c) l) None) ≡ true
     go true q i = i (omega arith)
     go false q i = absurd (omega arith)
 
@@ -68,7 +68,7 @@ hex_read v [] = refl
 hex_read v (c ∷ l) = go (ltb (value_of c) 16) (hex_read (v * 16 + value_of c) l)
   where
     go : (t : Bool) → are_hex l ≡ is_number (digits_read 16 (v * 16 + value_of c) l)
-        → (t && are_hex l) ≡ is_number (cond t (digits_read 16 (v * 16 + value_of c) l) Read.Nothing)
+        → (t && are_hex l) ≡ is_number (cond t (digits_read 16 (v * 16 + value_of c) l) None)
     go true i = i
     go false i = refl
 
@@ -119,13 +119,13 @@ module _ (l : List ℕ) (r : Reason) (a : ℕ) (q : is_fault r ≡ true) (x : Fa
 decimal_form : (f : List ℕ) → is_number (decimal_of f) ≡ (not (bad_digits (digits_in 10 5 f) (length f)) && not (leading_zero f))
 decimal_form f = go (is_number (digits_read 10 0 f)) refl (leb (length f) 5) refl (leading_zero f)
   where
-    none : (s z : Bool) → is_number (digits_read 10 0 f) ≡ false → is_number (cond s (cond z Read.Nothing (digits_read 10 0 f)) Read.Nothing) ≡ false
+    none : (s z : Bool) → is_number (digits_read 10 0 f) ≡ false → is_number (cond s (cond z None (digits_read 10 0 f)) None) ≡ false
     none true true e = refl
     none true false e = e
     none false z e = refl
 
     some : (t z : Bool) → is_number (digits_read 10 0 f) ≡ true
-        → is_number (cond (not t && true) (cond z Read.Nothing (digits_read 10 0 f)) Read.Nothing) ≡ (not t && not z)
+        → is_number (cond (not t && true) (cond z None (digits_read 10 0 f)) None) ≡ (not t && not z)
     some true z e = refl
     some false true e = refl
     some false false e = e
@@ -138,7 +138,7 @@ decimal_form f = go (is_number (digits_read 10 0 f)) refl (leb (length f) 5) ref
         by (suc n) = le-leb 1 (suc n) (omega arith) ∙ sym (ap not (ne_eqb (suc n) 0 (λ e. omega arith)))
 
     go : (t : Bool) → is_number (digits_read 10 0 f) ≡ t → (s : Bool) → leb (length f) 5 ≡ s → (z : Bool)
-        → is_number (cond (leb 1 (length f) && leb (length f) 5) (cond z Read.Nothing (digits_read 10 0 f)) Read.Nothing)
+        → is_number (cond (leb 1 (length f) && leb (length f) 5) (cond z None (digits_read 10 0 f)) None)
         ≡ (not (bad_digits (digits_in 10 5 f) (length f)) && not z)
     go false e s h z = rw (bad_few 10 5 f e) (none (leb 1 (length f) && leb (length f) 5) z e)
     go true e true h z = rw (h, bad_none 10 5 f e (leb-true _ _ h), one) (some (eqb (length f) 0) z e)
@@ -180,7 +180,7 @@ address_form f = ap not (go (eqb (length f) 8) refl)
     never true = refl
     never false = refl
 
-    go : (t : Bool) → eqb (length f) 8 ≡ t → (eqb (digits_in 16 8 f) 8 && t) ≡ is_number (cond t (digits_read 16 0 f) Read.Nothing)
+    go : (t : Bool) → eqb (length f) 8 ≡ t → (eqb (digits_in 16 8 f) 8 && t) ≡ is_number (cond t (digits_read 16 0 f) None)
     go true e = eight (eqb-true _ _ e) (is_number (digits_read 16 0 f)) refl
     go false e = never (eqb (digits_in 16 8 f) 8)
 
@@ -240,7 +240,7 @@ bytes_fault_lem l h x =
     go false true = refl
     go false false = ap is_fault (found_reason Reason.Odd (12 + digits_in 16 32 h) l)
 
-away_fault_lem : (x c a n : ℕ) (l : List ℕ) → is_fault (away_fault (Read.Number x) c a l n).reason ≡ not (eqb c 0 || leb (x + c) n)
+away_fault_lem : (x c a n : ℕ) (l : List ℕ) → is_fault (away_fault (Some x) c a l n).reason ≡ not (eqb c 0 || leb (x + c) n)
 unfolding away_fault
 away_fault_lem x c a n l = go (eqb c 0 || leb (x + c) n)
   where
@@ -251,7 +251,7 @@ away_fault_lem x c a n l = go (eqb c 0 || leb (x + c) n)
 -- ---- each kind of line: it is bad exactly if it has a fault
 
 limit_bad : (p : ℕ → Phase) (l : List ℕ) → ((n : ℕ) → is_bad (p n) ≡ false) → (n : ℕ)
-    → is_fault (limit_fault (Read.Number n) l).reason ≡ is_bad (cond (leb n 16384) (p n) Phase.Bad)
+    → is_fault (limit_fault (Some n) l).reason ≡ is_bad (cond (leb n 16384) (p n) Phase.Bad)
 unfolding limit_fault
 limit_bad p l g n = go (leb n 16384)
   where
@@ -262,16 +262,16 @@ limit_bad p l g n = go (leb n 16384)
 size_bad : (l r : List ℕ) → is_fault (number_fault l r).reason ≡ is_bad (size_of (decimal_of r))
 size_bad l r = decimal_fault_lem 4 l r (limit_fault (decimal_of r) l) ∙ go (decimal_of r)
   where
-    go : (x : Read) → (not (is_number x) || is_fault (limit_fault x l).reason) ≡ is_bad (size_of x)
-    go Read.Nothing = refl
-    go (Read.Number n) = limit_bad Phase.Body l (λ (i : ℕ). refl) n
+    go : (x : Option ℕ) → (not (is_number x) || is_fault (limit_fault x l).reason) ≡ is_bad (size_of x)
+    go None = refl
+    go (Some n) = limit_bad Phase.Body l (λ (i : ℕ). refl) n
 
 budget_bad : (l r : List ℕ) (n : ℕ) → is_fault (number_fault l r).reason ≡ is_bad (budget_of (decimal_of r) n)
 budget_bad l r n = decimal_fault_lem 4 l r (limit_fault (decimal_of r) l) ∙ go (decimal_of r)
   where
-    go : (x : Read) → (not (is_number x) || is_fault (limit_fault x l).reason) ≡ is_bad (budget_of x n)
-    go Read.Nothing = refl
-    go (Read.Number b) = limit_bad (Phase.Done n) l (λ (i : ℕ). refl) b
+    go : (x : Option ℕ) → (not (is_number x) || is_fault (limit_fault x l).reason) ≡ is_bad (budget_of x n)
+    go None = refl
+    go (Some b) = limit_bad (Phase.Done n) l (λ (i : ℕ). refl) b
 
 module _ (l : List ℕ) (n : ℕ) (m : List ℕ) (k : Marks) where
   -- whatever memory and marks then are
@@ -293,15 +293,15 @@ module _ (l : List ℕ) (n : ℕ) (m : List ℕ) (k : Marks) where
       third false q r s e = let z : ◌≡◌ {A = ℕ} 0 1 = cc in absurd (omega arith)
 
       half : (a : ℕ) (h : List ℕ) (t : Bool) → are_bytes h ≡ t
-          → (not t || is_fault (away_fault (Read.Number a) (length h / 2) 3 l n).reason) ≡ not (t && leb (a + length h / 2) n)
+          → (not t || is_fault (away_fault (Some a) (length h / 2) 3 l n).reason) ≡ not (t && leb (a + length h / 2) n)
       half a h false e = refl
       half a h true e =
           let q : 2 ≤ length h = leb-true _ _ (third (are_hex h) (is_even (length h)) (leb 2 (length h)) (leb (length h) 32) e) in
           rw (away_fault_lem a (length h / 2) 3 n l, ne_eqb (length h / 2) 0 (λ (y : length h / 2 ≡ 0). omega arith))
 
-      go : (x : Read) (h : List ℕ) → (not (is_number x) || (not (are_bytes h) || is_fault (away_fault x (length h / 2) 3 l n).reason)) ≡ is_bad (put_of x h n m k).phase
-      go Read.Nothing h = refl
-      go (Read.Number a) h = half a h (are_bytes h) refl ∙ sym (body_if (are_bytes h && leb (a + length h / 2) n) _ _)
+      go : (x : Option ℕ) (h : List ℕ) → (not (is_number x) || (not (are_bytes h) || is_fault (away_fault x (length h / 2) 3 l n).reason)) ≡ is_bad (put_of x h n m k).phase
+      go None h = refl
+      go (Some a) h = half a h (are_bytes h) refl ∙ sym (body_if (are_bytes h && leb (a + length h / 2) n) _ _)
 
   mark_bad : (r : List ℕ) → is_fault (mark_fault l r n).reason ≡ is_bad (mark_of (address_of (before_of r)) (decimal_of (beyond_of r)) n m k).phase
   unfolding mark_of count_of count_fault
@@ -310,10 +310,10 @@ module _ (l : List ℕ) (n : ℕ) (m : List ℕ) (k : Marks) where
       ∙ ap (λ (y : Bool). not (is_number (address_of (before_of r))) || y) (decimal_fault_lem 14 l (beyond_of r) (count_fault (address_of (before_of r)) (decimal_of (beyond_of r)) l n))
       ∙ go (address_of (before_of r)) (decimal_of (beyond_of r))
     where
-      go : (x c : Read) → (not (is_number x) || (not (is_number c) || is_fault (count_fault x c l n).reason)) ≡ is_bad (mark_of x c n m k).phase
-      go Read.Nothing c = refl
-      go (Read.Number a) Read.Nothing = refl
-      go (Read.Number a) (Read.Number c) = away_fault_lem a c 5 n l ∙ sym (body_if (eqb c 0 || leb (a + c) n) _ _)
+      go : (x c : Option ℕ) → (not (is_number x) || (not (is_number c) || is_fault (count_fault x c l n).reason)) ≡ is_bad (mark_of x c n m k).phase
+      go None c = refl
+      go (Some a) None = refl
+      go (Some a) (Some c) = away_fault_lem a c 5 n l ∙ sym (body_if (eqb c 0 || leb (a + c) n) _ _)
 
   body_bad : (w r : List ℕ) → is_fault (body_fault l w r n).reason ≡ is_bad (body_of w r n m k).phase
   unfolding body_fault body_of

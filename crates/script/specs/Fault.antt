@@ -1,9 +1,8 @@
 -- Why a line is bad, and where in it. Document 01 asks for the line's number alone; this is for the words of a message.
 -- Assumes nothing.
-use Rattle.std.specs.Prelude.{ℕ, zero, suc, ◌+◌, ◌/◌, Bool, cond, ◌&&◌, ◌||◌, not, List, [], ◌∷◌, ltb, leb, eqb, length, get_or}
+use Rattle.std.specs.Prelude.{ℕ, zero, suc, ◌+◌, ◌/◌, Bool, cond, ◌&&◌, ◌||◌, not, List, [], ◌∷◌, ltb, leb, eqb, length, get_or, None, Option, Some}
 use Rattle.text.specs.Digits.{digits_in, leading_zero, decimal_of, address_of}
 use Rattle.text.specs.Fields.{before_of, beyond_of, same_of}
-use Rattle.text.specs.declared.Read.{Read}
 use Rattle.script.specs.Line.{is_even, word_mem, word_at, word_mark, word_run}
 use Rattle.script.specs.declared.Fault.{Fault}
 use Rattle.script.specs.declared.Phase.{Phase}
@@ -50,18 +49,18 @@ bytes_fault l h x =
     (found Reason.Odd (12 + digits_in 16 32 h) l))
 
 -- a size or a budget above 16,384
-unfoldable pub limit_fault : Read → List ℕ → Fault
-limit_fault Read.Nothing l = good
-limit_fault (Read.Number n) l = cond (leb n 16384) good (found Reason.TooLarge 4 l)
+unfoldable pub limit_fault : Option ℕ → List ℕ → Fault
+limit_fault None l = good
+limit_fault (Some n) l = cond (leb n 16384) good (found Reason.TooLarge 4 l)
 
 -- c bytes from an address on that are not inside memory of n bytes; its field starts at a
-unfoldable pub away_fault : Read → ℕ → ℕ → List ℕ → ℕ → Fault
-away_fault Read.Nothing c a l n = good
-away_fault (Read.Number x) c a l n = cond (eqb c 0 || leb (x + c) n) good (found Reason.Outside a l)
+unfoldable pub away_fault : Option ℕ → ℕ → ℕ → List ℕ → ℕ → Fault
+away_fault None c a l n = good
+away_fault (Some x) c a l n = cond (eqb c 0 || leb (x + c) n) good (found Reason.Outside a l)
 
-unfoldable pub count_fault : Read → Read → List ℕ → ℕ → Fault
-count_fault x Read.Nothing l n = good
-count_fault x (Read.Number c) l n = away_fault x c 5 l n
+unfoldable pub count_fault : Option ℕ → Option ℕ → List ℕ → ℕ → Fault
+count_fault x None l n = good
+count_fault x (Some c) l n = away_fault x c 5 l n
 
 -- a line of each kind; r are its fields beyond the word
 abbrev pub number_fault : List ℕ → List ℕ → Fault

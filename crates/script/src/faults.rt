@@ -5,7 +5,6 @@ ghost use Rattle.script.specs.Fault.{good, found, ends_word, letters_in, bad_dig
 
 use crate::lines::{is_even, is_inside};
 use crate::{Fault, Phase, Reader, Reason};
-use text::Read;
 
 fn early_fault(reason: Reason) -> Fault
     ensures { result ≡ early reason }
@@ -113,12 +112,12 @@ fn bytes_fault(l: &[u8], h: &[u8], rest: Fault) -> Fault
     found_at(Reason::Odd, 12 + d, l)
 }
 
-fn limit_fault(r: Read, l: &[u8]) -> Fault
+fn limit_fault(r: Option<u32>, l: &[u8]) -> Fault
     ensures { result ≡ limit_fault r l.now }
 {
     match r {
-        Read::Nothing => no_fault(),
-        Read::Number(n) => {
+        None => no_fault(),
+        Some(n) => {
             if n <= 16384 {
                 return no_fault();
             }
@@ -127,13 +126,13 @@ fn limit_fault(r: Read, l: &[u8]) -> Fault
     }
 }
 
-fn away_fault(x: Read, c: usize, at: usize, l: &[u8], n: u32) -> Fault
+fn away_fault(x: Option<u32>, c: usize, at: usize, l: &[u8], n: u32) -> Fault
     requires { c < 9223372036854775808 }
     ensures { result ≡ away_fault x c at l.now n }
 {
     match x {
-        Read::Nothing => no_fault(),
-        Read::Number(a) => {
+        None => no_fault(),
+        Some(a) => {
             if word::either(c == 0, is_inside(a, c, n)) {
                 return no_fault();
             }
@@ -142,12 +141,12 @@ fn away_fault(x: Read, c: usize, at: usize, l: &[u8], n: u32) -> Fault
     }
 }
 
-fn count_fault(x: Read, r: Read, l: &[u8], n: u32) -> Fault
+fn count_fault(x: Option<u32>, r: Option<u32>, l: &[u8], n: u32) -> Fault
     ensures { result ≡ count_fault x r l.now n }
 {
     match r {
-        Read::Nothing => no_fault(),
-        Read::Number(c) => away_fault(x, c as usize, 5, l, n),
+        None => no_fault(),
+        Some(c) => away_fault(x, c as usize, 5, l, n),
     }
 }
 

@@ -5,15 +5,14 @@ ghost use Rattle.marks.specs.Memory.{bits, put_marks};
 ghost use Rattle.script.specs.Line.{size_of, budget_of, is_even, are_bytes, pairs_of, put_of, count_of, mark_of, first_of, body_of, line_of};
 
 use crate::Phase;
-use text::Read;
 use word::ByteAddr;
 
-fn size_in(r: Read) -> Phase
+fn size_in(r: Option<u32>) -> Phase
     ensures { result ≡ size_of r }
 {
     match r {
-        Read::Nothing => Phase::Bad,
-        Read::Number(n) => {
+        None => Phase::Bad,
+        Some(n) => {
             if n <= 16384 {
                 Phase::Body(n)
             } else {
@@ -23,12 +22,12 @@ fn size_in(r: Read) -> Phase
     }
 }
 
-fn budget_in(r: Read, n: u32) -> Phase
+fn budget_in(r: Option<u32>, n: u32) -> Phase
     ensures { result ≡ budget_of r n }
 {
     match r {
-        Read::Nothing => Phase::Bad,
-        Read::Number(b) => {
+        None => Phase::Bad,
+        Some(b) => {
             if b <= 16384 {
                 Phase::Done(n, b)
             } else {
@@ -83,14 +82,14 @@ pub fn is_inside(a: u32, c: usize, n: u32) -> bool
     a as usize + c <= n as usize
 }
 
-fn put_line(r: Read, h: &[u8], n: u32, m: &mut [u8; 16384], k: &mut [u8; 2048]) -> Phase
+fn put_line(r: Option<u32>, h: &[u8], n: u32, m: &mut [u8; 16384], k: &mut [u8; 2048]) -> Phase
     ensures value { result ≡ (put_of r h.now n m.old (bits k.old)).phase }
     ensures m_after { m.new ≡ (put_of r h.now n m.old (bits k.old)).mem }
     ensures k_after { bits k.new ≡ (put_of r h.now n m.old (bits k.old)).marks }
 {
     match r {
-        Read::Nothing => Phase::Bad,
-        Read::Number(a) => {
+        None => Phase::Bad,
+        Some(a) => {
             if are_bytes(h) {
                 if is_inside(a, h.len() / 2, n) {
                     put_bytes(a, h, m);
@@ -103,14 +102,14 @@ fn put_line(r: Read, h: &[u8], n: u32, m: &mut [u8; 16384], k: &mut [u8; 2048]) 
     }
 }
 
-fn count_line(a: u32, r: Read, n: u32, m: &mut [u8; 16384], k: &mut [u8; 2048]) -> Phase
+fn count_line(a: u32, r: Option<u32>, n: u32, m: &mut [u8; 16384], k: &mut [u8; 2048]) -> Phase
     ensures value { result ≡ (count_of a r n m.old (bits k.old)).phase }
     ensures m_after { m.new ≡ (count_of a r n m.old (bits k.old)).mem }
     ensures k_after { bits k.new ≡ (count_of a r n m.old (bits k.old)).marks }
 {
     match r {
-        Read::Nothing => Phase::Bad,
-        Read::Number(c) => {
+        None => Phase::Bad,
+        Some(c) => {
             if c == 0 {
                 return Phase::Body(n);
             }
@@ -123,14 +122,14 @@ fn count_line(a: u32, r: Read, n: u32, m: &mut [u8; 16384], k: &mut [u8; 2048]) 
     }
 }
 
-fn mark_line(r: Read, c: Read, n: u32, m: &mut [u8; 16384], k: &mut [u8; 2048]) -> Phase
+fn mark_line(r: Option<u32>, c: Option<u32>, n: u32, m: &mut [u8; 16384], k: &mut [u8; 2048]) -> Phase
     ensures value { result ≡ (mark_of r c n m.old (bits k.old)).phase }
     ensures m_after { m.new ≡ (mark_of r c n m.old (bits k.old)).mem }
     ensures k_after { bits k.new ≡ (mark_of r c n m.old (bits k.old)).marks }
 {
     match r {
-        Read::Nothing => Phase::Bad,
-        Read::Number(a) => count_line(a, c, n, m, k),
+        None => Phase::Bad,
+        Some(a) => count_line(a, c, n, m, k),
     }
 }
 

@@ -1,5 +1,6 @@
 -- Laws that the functions' proofs cite: a list read from one place on.
 -- Assumes nothing.
+use Rattle.std.specs.Prelude.{None, Some}
 use Prim.Native.Nat.{ℕ, zero, suc, ◌+◌, ◌*◌, ◌-◌, ◌/◌, ◌%◌, ◌^◌, ◌<◌, ◌≤◌}
 use mathlib.Core.Path.{◌≡◌, refl, sym, ap, ap₂, subst, subst⁻¹, ◌∙◌}
 use mathlib.Core.Bool.{Bool, true, false, ◌&&◌}
@@ -15,7 +16,6 @@ use lib.ListN.{length, get_or, take, drop, set, length-drop, drop_of_length-le}
 use lib.Seq.{take_all, append_snoc, drop-cons, lt-length-set, get_or-set_same, drop-set-lt}
 use Rattle.text.specs.Digits.{value_of, glyph_of, digits_read, digits_in, digits_of, are_hex}
 use Rattle.text.specs.Fields.{tab_of, same_of}
-use Rattle.text.specs.declared.Read.{Read}
 
 module _ (l : List ℕ) (i : ℕ) (h : i < length l) where
   next : drop i l ≡ get_or l i 0 ∷ drop (i + 1) l
@@ -38,7 +38,7 @@ module _ (l : List ℕ) (i : ℕ) (h : i < length l) where
       let s : n - i ≡ suc (n - (i + 1)) = omega arith in
       rw (s, next, ← e, le-ltb d b k)
 
-  pub number_stop : (b v d : ℕ) → d ≡ value_of (get_or l i 0) → b ≤ d → digits_read b v (drop i l) ≡ Read.Nothing
+  pub number_stop : (b v d : ℕ) → d ≡ value_of (get_or l i 0) → b ≤ d → digits_read b v (drop i l) ≡ None
   unfolding digits_read
   number_stop b v d e k = rw (next, ← e, le-ltb d b k)
 
@@ -69,7 +69,7 @@ module _ (a b : List ℕ) (i : ℕ) (h : i < length a) (k : i < length b) where
 
 -- and from the end on
 module _ (l : List ℕ) (i : ℕ) (h : length l ≤ i) where
-  pub number_none : (b v : ℕ) → digits_read b v (drop i l) ≡ Read.Number v
+  pub number_none : (b v : ℕ) → digits_read b v (drop i l) ≡ Some v
   unfolding digits_read
   number_none b v = rw (drop_of_length-le l h)
 

@@ -9,13 +9,6 @@ mod writing;
 
 pub use writing::{put, put_all, put_half, put_hex, put_number, put_signed};
 
-// What a field says.
-#[derive(Clone, Copy)]
-pub enum Read {
-    Number(u32),
-    Nothing,
-}
-
 // ---- parts and fields
 
 // The first n bytes, or all where there are fewer.
@@ -108,7 +101,7 @@ pub fn value(c: u8) -> u32
     16
 }
 
-fn number(base: u32, l: &[u8]) -> Read
+fn number(base: u32, l: &[u8]) -> Option<u32>
     requires { (base ≤ 16) × (length l.now ≤ 8) }
     ensures { result ≡ digits_read base 0 l.now }
 {
@@ -117,12 +110,12 @@ fn number(base: u32, l: &[u8]) -> Read
     while i < l.len() {
         let d = value(l[i]);
         if base <= d {
-            return Read::Nothing;
+            return None;
         }
         v = v * base as u64 + d as u64;
         i += 1;
     }
-    Read::Number(v as u32)
+    Some(v as u32)
 }
 
 // How far digits of a base reach, among the first `most` bytes.
@@ -151,28 +144,28 @@ pub fn has_leading_zero(l: &[u8]) -> bool
     false
 }
 
-pub fn decimal(l: &[u8]) -> Read
+pub fn decimal(l: &[u8]) -> Option<u32>
     ensures { result ≡ decimal_of l.now }
 {
     if 1 <= l.len() {
         if l.len() <= 5 {
             if has_leading_zero(l) {
-                return Read::Nothing;
+                return None;
             }
             return number(10, l);
         }
-        return Read::Nothing;
+        return None;
     }
-    Read::Nothing
+    None
 }
 
-pub fn address(l: &[u8]) -> Read
+pub fn address(l: &[u8]) -> Option<u32>
     ensures { result ≡ address_of l.now }
 {
     if l.len() == 8 {
         return number(16, l);
     }
-    Read::Nothing
+    None
 }
 
 pub fn are_hex(l: &[u8]) -> bool

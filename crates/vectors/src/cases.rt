@@ -2,10 +2,10 @@
 ghost use Rattle.std.specs.Prelude.{◌≤◌, ◌<◌, length};
 
 use crate::digests::folded_line;
+use machine::Line;
 use reading::read_full;
 use std::io;
 use std::io::Read;
-use trace::Seen;
 use word::{ByteAddr, Width};
 
 // What is larger than its room is cut: a case that keeps to the limits of docs/CORPUS.md is not.
@@ -73,7 +73,7 @@ impl Machine {
     }
 
     // The line of a step, and then the step itself, as a run with a budget of 1.
-    fn step(&mut self, sizes: Sizes, tape: &[u8]) -> Seen
+    fn step(&mut self, sizes: Sizes, tape: &[u8]) -> Option<Line>
         requires { 0 < length tape.now }
     {
         let seen = trace::show(
@@ -90,7 +90,9 @@ impl Machine {
     pub fn trace(&mut self, sizes: Sizes, tape: &[u8], steps: u64) -> u64 {
         let mut d: u64 = 1;
         for n in 0..tape.len().min(steps as usize) {
-            d = folded_line(d, self.step(sizes, &tape[n..]));
+            if let Some(line) = self.step(sizes, &tape[n..]) {
+                d = folded_line(d, line);
+            }
         }
         d
     }

@@ -1,8 +1,8 @@
 // The digests of bytes, and of a step's line.
 use cpu::Entry;
 use digest::{fold, fold_bytes};
-use machine::Data;
-use trace::Seen;
+use machine::Line;
+use word::ByteAddr;
 
 pub fn digest_of(m: &[u8]) -> u64 {
     fold_bytes(1, m)
@@ -25,19 +25,14 @@ fn folded_entry(d: u64, e: Entry) -> u64 {
     fold(fold(d, u32::from(kind)), n)
 }
 
-fn folded_data(d: u64, a: Data) -> u64 {
+fn folded_data(d: u64, a: Option<ByteAddr>) -> u64 {
     match a {
-        Data::Nowhere => folded_word(fold(d, 0), 0),
-        Data::At(at) => folded_word(fold(d, 1), at.0),
+        Some(at) => folded_word(fold(d, 1), at.0),
+        None => folded_word(fold(d, 0), 0),
     }
 }
 
-pub fn folded_line(d: u64, s: Seen) -> u64 {
-    match s {
-        Seen::Nothing => d,
-        Seen::Step(line) => {
-            let started = folded_word(d, line.pc.0);
-            folded_data(folded_entry(started, line.entry), line.address)
-        }
-    }
+pub fn folded_line(d: u64, line: Line) -> u64 {
+    let started = folded_word(d, line.pc.0);
+    folded_data(folded_entry(started, line.entry), line.address)
 }

@@ -4,14 +4,14 @@ use crate::mnemonics::{Row, mnemonic, row_of, stride, with_operands};
 use crate::tallies::{count_in, fold_in, place};
 use isa::{Decoded, Encoded, Instr};
 
-fn fold_row(t: &mut [u64; 300], at: usize, r: Row, e: Encoded) {
+fn fold_row(t: &mut [u64; 300], at: usize, r: Row, e: Option<Encoded>) {
     fold_in(t, at, r.a);
     fold_in(t, at, r.b);
     fold_in(t, at, r.c);
     match e {
-        Encoded::Half(first) => fold_bits(t, at, 1, first, 0),
-        Encoded::Pair(first, second) => fold_bits(t, at, 2, first, second),
-        Encoded::Nothing => fold_bits(t, at, 0, 0, 0),
+        Some(Encoded::Half(first)) => fold_bits(t, at, 1, first, 0),
+        Some(Encoded::Pair(first, second)) => fold_bits(t, at, 2, first, second),
+        None => fold_bits(t, at, 0, 0, 0),
     }
 }
 
@@ -33,9 +33,9 @@ fn found(t: &mut [u64; 300], first: u16, second: u16, size: u32, i: Instr) {
 
 fn decode_pair(t: &mut [u64; 300], first: u16, second: u16) {
     match isa::decode(first, second) {
-        Decoded::Short(i) => found(t, first, second, 2, i),
-        Decoded::Long(i) => found(t, first, second, 4, i),
-        Decoded::Nothing => {
+        Some(Decoded::Short(i)) => found(t, first, second, 2, i),
+        Some(Decoded::Long(i)) => found(t, first, second, 4, i),
+        None => {
             count_in(t, 295);
             fold_in(t, 296, first as u32);
             fold_in(t, 296, second as u32);
@@ -67,7 +67,7 @@ fn encode_at(t: &mut [u64; 300], m: usize, i: Instr) {
     let r = row_of(i);
     let at = place(m);
     let e = isa::encode(i);
-    if let Encoded::Nothing = e {
+    if let None = e {
         count_in(t, at + 3);
     } else {
         count_in(t, at + 2);
@@ -105,9 +105,9 @@ pub fn encode_all(t: &mut [u64; 300]) {
     while h < 65536 {
         let m = mnemonic(h as u16);
         match isa::decode(h as u16, 0) {
-            Decoded::Short(i) => encode_first(t, m, i),
-            Decoded::Long(i) => encode_first(t, m, i),
-            Decoded::Nothing => {}
+            Some(Decoded::Short(i)) => encode_first(t, m, i),
+            Some(Decoded::Long(i)) => encode_first(t, m, i),
+            None => {}
         }
         h += 1;
     }

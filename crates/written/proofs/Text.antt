@@ -1,5 +1,6 @@
 -- The lines of a text, one after the other.
 -- Assumes nothing.
+use Rattle.std.specs.Prelude.{Err, Ok, Result}
 use Prim.Native.Nat.{ℕ, zero, suc, ◌+◌, ◌%◌, ◌≤◌, ◌<◌}
 use mathlib.Core.Path.{◌≡◌, refl, sym, ap, ◌∙◌}
 use mathlib.Core.Bool.{Bool, true, false, cond, not, ◌&&◌, ◌||◌}
@@ -15,7 +16,6 @@ use Rattle.expr.specs.Expr.{Labels}
 use Rattle.forms.specs.Form.{onto_first, lines_of, what_in, shape_of}
 use Rattle.asm.specs.Assemble.{address_of, label_in, is_set, has_room, with_name, before, refused_if, label_check, room_check, go_on, verdict_of, code_of, is_outside, text_labels, verdict_in}
 use Rattle.asm.specs.declared.Refusal.{Refusal}
-use Rattle.asm.specs.declared.Checked.{Checked}
 use Rattle.asm.specs.declared.Assembled.{Assembled}
 use Rattle.written.specs.Assembly.{own_label, own_labels, check_at, AllFine, FineThenNot, Told, odd, past, line}
 use Rattle.written.specs.Written.{AllShow}
@@ -44,21 +44,21 @@ some_name zero = refl
 some_name (suc n) = rw (lt-ltb 0 (suc n) (omega arith), ne_eqb (suc n) 0 (λ q. omega arith))
 
 -- after a line that is fine its label is set, if it has one
-names_on : (s : List ℕ) (l : List ℕ) → label_check s (label_in l) ≡ Checked.Fine → with_name s (label_in l) ≡ s ++ own_labels l
+names_on : (s : List ℕ) (l : List ℕ) → label_check s (label_in l) ≡ (Ok tt) → with_name s (label_in l) ≡ s ++ own_labels l
 unfolding label_check with_name
 names_on s l e = rw (some_name (own_label l)) (go (eqb (own_label l) 0) (is_set s (own_label l)) (has_room s) e)
   where
     k : ℕ
     k = own_label l
 
-    go : (u v w : Bool) → cond u Checked.Fine (before (refused_if v Refusal.Twice) (refused_if (not w) Refusal.Many)) ≡ Checked.Fine
+    go : (u v w : Bool) → cond u (Ok tt) (before (refused_if v Refusal.Twice) (refused_if (not w) Refusal.Many)) ≡ (Ok tt)
         → cond (not u && not v && w) (s ++ (k ∷ [])) s ≡ s ++ cond (not u) (k ∷ []) []
     go true v w q = sym (append-nil s)
     go false true w q = let z : ◌≡◌ {A = ℕ} 0 1 = cc in absurd (omega arith)
     go false false true q = refl
     go false false false q = let z : ◌≡◌ {A = ℕ} 0 1 = cc in absurd (omega arith)
 
-module _ (t : Labels) (s : List ℕ) (p n : ℕ) (l : List ℕ) (e : check_at t s p n l ≡ Checked.Fine) where
+module _ (t : Labels) (s : List ℕ) (p n : ℕ) (l : List ℕ) (e : check_at t s p n l ≡ (Ok tt)) where
   -- what is known of a line that is fine at its place
   here : Fine t s (address_of p) (room_check p (shape_of (what_in l)).size n) (what_in l) l
   here = fine t s (address_of p) (room_check p (shape_of (what_in l)).size n) (what_in l) l e
@@ -66,9 +66,9 @@ module _ (t : Labels) (s : List ℕ) (p n : ℕ) (l : List ℕ) (e : check_at t 
   names_after : with_name s (label_in l) ≡ s ++ own_labels l
   names_after = names_on s l here.label
 
-done_fine : (c : Checked) (j i e : ℕ) (rest : Assembled) → go_on c j rest ≡ Assembled.Done i e → (c ≡ Checked.Fine) × (rest ≡ Assembled.Done i e)
-done_fine Checked.Fine j i e rest q = (refl, q)
-done_fine (Checked.Not r) j i e rest q = let z : ◌≡◌ {A = ℕ} 0 1 = cc in absurd (omega arith)
+done_fine : (c : Result Unit Refusal) (j i e : ℕ) (rest : Assembled) → go_on c j rest ≡ Assembled.Done i e → (c ≡ (Ok tt)) × (rest ≡ Assembled.Done i e)
+done_fine (Ok _) j i e rest q = (refl, q)
+done_fine (Err r) j i e rest q = let z : ◌≡◌ {A = ℕ} 0 1 = cc in absurd (omega arith)
 
 pub all_fine : (t : Labels) (s : List ℕ) (p n j i e : ℕ) (ls : List (List ℕ)) → verdict_of t s p n j ls ≡ Assembled.Done i e → AllFine t s p n ls
 unfolding verdict_of
@@ -77,11 +77,11 @@ all_fine t s p n j i e (l ∷ r) q =
     let d = done_fine (check_at t s p n l) (suc j) i e _ q in
     (d.0, all_fine t (s ++ own_labels l) (p + (shape_of (what_in l)).size) n (suc j) i e r (rw (names_after t s p n l d.0) at d.1))
 
-room_for : (p n m : ℕ) → room_check p n m ≡ Checked.Fine → p + n ≤ m
+room_for : (p n m : ℕ) → room_check p n m ≡ (Ok tt) → p + n ≤ m
 unfolding room_check
 room_for p n m e = go (ltb m (p + n)) refl e
   where
-    go : (u : Bool) → ltb m (p + n) ≡ u → refused_if u Refusal.Room ≡ Checked.Fine → p + n ≤ m
+    go : (u : Bool) → ltb m (p + n) ≡ u → refused_if u Refusal.Room ≡ (Ok tt) → p + n ≤ m
     go true f q = let z : ◌≡◌ {A = ℕ} 0 1 = cc in absurd (omega arith)
     go false f q = ltb-false m (p + n) f
 
@@ -89,7 +89,7 @@ code_none : (t : Labels) (a : ByteAddr) → length (code_of t a []) ≡ 0
 unfolding code_of
 code_none t a = refl
 
-code_step : (t : Labels) (s : List ℕ) (p n : ℕ) (l : List ℕ) (r : List (List ℕ)) → check_at t s p n l ≡ Checked.Fine
+code_step : (t : Labels) (s : List ℕ) (p n : ℕ) (l : List ℕ) (r : List (List ℕ)) → check_at t s p n l ≡ (Ok tt)
     → length (code_of t (address_of p) (l ∷ r)) ≡ (shape_of (what_in l)).size + length (code_of t (address_of (p + (shape_of (what_in l)).size)) r)
 unfolding code_of
 code_step t s p n l r e = rw (length-append, line_size_lem t s (address_of p) (room_check p (shape_of (what_in l)).size n) (what_in l) l e, address_on)
@@ -135,14 +135,14 @@ first_not t s p n j i q (l ∷ r) e = go (check_at t s p n l) refl e (first_not 
     rest : List ℕ → Assembled
     rest s = verdict_of t s (p + (shape_of (what_in l)).size) n (suc j) r
 
-    go : (c : Checked) → check_at t s p n l ≡ c → go_on c (suc j) (rest (with_name s (label_in l))) ≡ Assembled.Refused q i
+    go : (c : Result Unit Refusal) → check_at t s p n l ≡ c → go_on c (suc j) (rest (with_name s (label_in l))) ≡ Assembled.Refused q i
         → (rest (s ++ own_labels l) ≡ Assembled.Refused q i → (k : ℕ) × (i ≡ suc (suc j + k)) × FineThenNot t (s ++ own_labels l) (p + (shape_of (what_in l)).size) n k q r)
         → (k : ℕ) × (i ≡ suc (j + k)) × FineThenNot t s p n k q (l ∷ r)
-    go Checked.Fine c e f = let g = f (ap rest (sym (names_after t s p n l c)) ∙ e) in let h = g.1 in (suc g.0, omega arith, (c, g.2))
-    go (Checked.Not x) c e f =
+    go (Ok _) c e f = let g = f (ap rest (sym (names_after t s p n l c)) ∙ e) in let h = g.1 in (suc g.0, omega arith, (c, g.2))
+    go (Err x) c e f =
         let a : x ≡ q = cc in
         let b : suc j ≡ i = cc in
-        (0, omega arith, c ∙ ap Checked.Not a)
+        (0, omega arith, c ∙ ap Err a)
 
 -- ---- the image
 

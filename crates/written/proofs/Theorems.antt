@@ -1,5 +1,6 @@
 -- The theorems of this crate, each with its statement; read this file alone with specs/. The proofs are in the files that it cites.
 -- Assumes nothing.
+use Rattle.std.specs.Prelude.{Err, Ok}
 use Prim.Native.Nat.{ℕ, ◌+◌, ◌%◌, ◌≤◌, ◌<◌}
 use mathlib.Core.Logic.{◌⊎◌}
 use mathlib.Core.Path.{◌≡◌, sym, ap, ◌∙◌}
@@ -16,7 +17,6 @@ use Rattle.expr.specs.declared.Value.{Value}
 use Rattle.forms.specs.Form.{lines_of, body_of, field_at, what_in, shape_of, is_known}
 use Rattle.asm.specs.Assemble.{address_of, labels_of, reply_of, line_of, end_of, line_check, room_check, line_bytes, text_labels, Answered, answered, verdict_in, assembled_of}
 use Rattle.asm.specs.declared.Refusal.{Refusal}
-use Rattle.asm.specs.declared.Checked.{Checked}
 use Rattle.asm.specs.declared.Assembled.{Assembled}
 use Rattle.written.specs.Assembly.{is_in, written_in, first_only, known_in, first_at, check_at, faults_of, Lowest, AllFine, Told, text_code}
 use Rattle.written.specs.Written.{Shows, AllShow}
@@ -28,7 +28,7 @@ use Rattle.written.proofs.Labels.{set_keys, set_means, unset_unknown}
 
 -- 1. The bytes of a line that is not refused, at its address, show what it writes: they decode to an instruction with its mnemonic, its registers and
 -- its values, or are its value, big-endian, for `half` and `word` ..
-module _ (t : Labels) (s : List ℕ) (p n : ℕ) (l : List ℕ) (ok : check_at t s p n l ≡ Checked.Fine) where
+module _ (t : Labels) (s : List ℕ) (p n : ℕ) (l : List ℕ) (ok : check_at t s p n l ≡ (Ok tt)) where
   known : is_known l ≡ true
   known = (fine t s (address_of p) (room_check p (shape_of (what_in l)).size n) (what_in l) l ok).known
 
@@ -125,7 +125,7 @@ module _ (t : Labels) (s : List ℕ) (p n : ℕ) (l : List ℕ) where
   unfit_not_shown = unfit_none t s p n l
 
   -- .. and unknown form is told before all others, whatever else.
-  pub form_first : is_known l ≡ false → check_at t s p n l ≡ Checked.Not Refusal.Form
+  pub form_first : is_known l ≡ false → check_at t s p n l ≡ Err Refusal.Form
   unfolding line_check
   form_first e = rw e
 

@@ -1,5 +1,6 @@
 -- Values of expressions fit in 32 signed bits; as bits, they stand for themselves.
 -- Assumes nothing.
+use Rattle.std.specs.Prelude.{None, Option, Some, ℕ}
 use Prim.Native.Nat.{ℕ, zero, suc, ◌+◌, ◌-◌, ◌<◌}
 use mathlib.Core.Path.{◌≡◌, refl, subst}
 use mathlib.Core.Bool.{Bool, true, false, cond, ◌||◌}
@@ -11,7 +12,6 @@ use lib.ListN.{length, get_or, take, drop}
 use lib.Signed.{mag, lt_z}
 use borrow.Author.Tests.{ltb-true, ltb-false, lt-ltb, le-ltb}
 use Rattle.text.specs.Digits.{digits_read, leading_zero}
-use Rattle.text.specs.declared.Read.{Read as Digits}
 use Rattle.expr.specs.Value.{fitted, applied, combined, signed_word, written}
 use Rattle.expr.specs.Expr.{Labels, is_letter, run_of, key_of, index_of, meaning, onward, counted, is_hex, word_read, leaf_of, joined_of, chain_of, items_of, adds, multiplies, sign_of, signed_of, closed_of, plain_with, operand_with, product_with, sum_with, inside_of, sum_of, value_of}
 use Rattle.expr.specs.declared.Read.{Read as Valued}
@@ -82,10 +82,10 @@ unfolding onward
 onward_small (Valued.Got v n) f (got p) k = k v n p
 onward_small (Valued.Not e) f p k = not
 
-counted_small : (n : ℕ) (d : Digits) → Read (counted n d)
+counted_small : (n : ℕ) (d : Option ℕ) → Read (counted n d)
 unfolding counted
-counted_small n (Digits.Number v) = got (written_small v)
-counted_small n Digits.Nothing = not
+counted_small n (Some v) = got (written_small v)
+counted_small n None = not
 
 joined_small : (c : ℕ) (v : Value) (r : Valued) → Read (joined_of c v r)
 unfolding joined_of

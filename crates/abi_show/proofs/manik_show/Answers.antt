@@ -3,13 +3,13 @@ use borrow.Author.Tests.{eq-eqb, ne_eqb}
 use Rattle.abi_show.specs.Show.{show_of}
 use Rattle.abi_show.proofs.manik_show.Goals as goal
 
-pub returns-in-Nothing : goal.returns-in-Nothing
+pub returns-in-None : goal.returns-in-None
 unfolding show_of
-returns-in-Nothing c = rw (← c.state_at.ensures, ← c.look-seen.ensures, c.in-Nothing.is, ← c.is_shaped.ensures, c.if-is_shaped.true, eq-eqb _ _ c.if-line-eq12.true) (record { value = refl; line_after = refl })
+returns-in-None c = rw (← c.state_at.ensures, ← c.look-seen.ensures, c.in-None.is, ← c.is_shaped.ensures, c.if-is_shaped.true, eq-eqb _ _ c.if-line-eq12.true) (record { value = refl; line_after = refl })
 
-pub returns-in-Step : goal.returns-in-Step
+pub returns-in-Some : goal.returns-in-Some
 unfolding show_of
-returns-in-Step c = rw (c.write_line.ensures, ← c.state_at.ensures, ← c.look-seen.ensures, c.in-Step.is, ← c.is_shaped.ensures, c.if-is_shaped.true, eq-eqb _ _ c.if-line-eq12.true) (record { value = refl; line_after = refl })
+returns-in-Some c = rw (c.write_line.ensures, ← c.state_at.ensures, ← c.look-seen.ensures, c.in-Some.is, ← c.is_shaped.ensures, c.if-is_shaped.true, eq-eqb _ _ c.if-line-eq12.true) (record { value = refl; line_after = refl })
 
 pub returns-else-is_shaped : goal.returns-else-is_shaped
 unfolding show_of

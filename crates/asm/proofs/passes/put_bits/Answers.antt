@@ -2,14 +2,14 @@ use Rattle.forms.specs.Says.{bytes_in}
 use Rattle.text.specs.Pages.{write_on}
 use Rattle.asm.proofs.passes.put_bits.Goals as goal
 
-pub returns-in-Half : goal.returns-in-Half
+pub returns-in-Some-Half : goal.returns-in-Some-Half
 unfolding bytes_in
-returns-in-Half c = rw (c.in-Half.is, ← c.put_all.ensures)
+returns-in-Some-Half c = rw (c.in-Some-Half.is, ← c.put_all.ensures)
 
-pub returns-in-Pair : goal.returns-in-Pair
+pub returns-in-Some-Pair : goal.returns-in-Some-Pair
 unfolding bytes_in
-returns-in-Pair c = rw (c.in-Pair.is, ← c.put_all-in-Pair.ensures)
+returns-in-Some-Pair c = rw (c.in-Some-Pair.is, ← c.put_all-in-Some-Pair.ensures)
 
-pub returns-in-Nothing : goal.returns-in-Nothing
+pub returns-in-None : goal.returns-in-None
 unfolding bytes_in write_on
-returns-in-Nothing c = rw c.in-Nothing.is
+returns-in-None c = rw c.in-None.is

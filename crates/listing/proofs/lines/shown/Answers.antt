@@ -1,14 +1,14 @@
 use Rattle.listing.specs.Listing.{shown_of}
 use Rattle.listing.proofs.lines.shown.Goals as goal
 
-pub returns-in-Short : goal.returns-in-Short
+pub returns-in-Some-Short : goal.returns-in-Some-Short
 unfolding shown_of
-returns-in-Short c = rw (c.row_of.ensures, c.place_of.ensures, c.in-Short.is)
+returns-in-Some-Short c = rw (c.row_of.ensures, c.place_of.ensures, c.in-Some-Short.is)
 
-pub returns-in-Long : goal.returns-in-Long
+pub returns-in-Some-Long : goal.returns-in-Some-Long
 unfolding shown_of
-returns-in-Long c = rw (c.row_of-in-Long.ensures, c.place_of-in-Long.ensures, c.in-Long.is)
+returns-in-Some-Long c = rw (c.row_of-in-Some-Long.ensures, c.place_of-in-Some-Long.ensures, c.in-Some-Long.is)
 
-pub returns-in-Nothing : goal.returns-in-Nothing
+pub returns-in-None : goal.returns-in-None
 unfolding shown_of
-returns-in-Nothing c = rw c.in-Nothing.is
+returns-in-None c = rw c.in-None.is
