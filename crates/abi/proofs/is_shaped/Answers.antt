@@ -3,10 +3,10 @@ use Rattle.std.proofs.lemmas.Grind.{common_steps}
 use Rattle.abi.specs.Record.{shaped}
 use Rattle.abi.proofs.is_shaped.Goals as goal
 
-pub returns-then-is_within-3 : goal.returns-then-is_within-3
+pub returns-then-r-eq160 : goal.returns-then-r-eq160
 unfolding shaped
-returns-then-is_within-3 c = grind (arith, common_steps)
+returns-then-r-eq160 c = grind (arith, common_steps)
 
-pub returns-else-is_within-3 : goal.returns-else-is_within-3
+pub returns-else-r-eq160 : goal.returns-else-r-eq160
 unfolding shaped
-returns-else-is_within-3 c = grind (arith, common_steps)
+returns-else-r-eq160 c = grind (arith, common_steps)
