@@ -1,14 +1,12 @@
 -- Small laws that the functions' proofs cite.
 -- Assumes nothing.
 use Prim.Native.Nat.{ℕ, suc, ◌+◌, ◌-◌, ◌<◌, ◌≤◌}
-use mathlib.Core.Path.{◌≡◌, refl}
-use mathlib.Core.Bool.{Bool, true, false, cond}
+use mathlib.Core.Path.{◌≡◌}
+use mathlib.Core.Bool.{Bool, false}
 use mathlib.Core.List.{List, [], ◌∷◌}
 use native.Mathlib.Omega.{arith}
-use lib.ListN.{length, get_or, take, drop, drop_of_length-le}
-use lib.Dec.{ltb}
-use lib.Seq.{take_all, take-length, drop-length}
-use borrow.Author.Tests.{ltb-false, lt-ltb, le-ltb}
+use lib.ListN.{get_or}
+use borrow.Author.Tests.{lt-ltb, le-ltb}
 use Rattle.text.specs.Digits.{hex_text, decimal_text}
 use Rattle.text.specs.Pages.{Page, write_on}
 use Rattle.text.proofs.Pages.{write_append, write_three, write_five}
