@@ -82,11 +82,33 @@ pub fn label(s: &[u8]) -> u64
     }
 }
 
-// Where the first label stands whose name has that number.
-pub fn find(labels: &[Entry], k: u64) -> Option<u32>
+fn find_one(labels: &[Entry], k: u64) -> Option<u32>
     ensures { result ≡ found labels.now k }
 {
     labels.iter().find(|l| l.name == k).map(|l| l.place)
+}
+
+// Where the first label stands whose name has that number. Four at a time: texts look for many labels.
+pub fn find(labels: &[Entry], k: u64) -> Option<u32>
+    ensures { result ≡ found labels.now k }
+{
+    let mut rest = labels;
+    while let [a, b, c, d, more @ ..] = rest {
+        if a.name == k {
+            return Some(a.place);
+        }
+        if b.name == k {
+            return Some(b.place);
+        }
+        if c.name == k {
+            return Some(c.place);
+        }
+        if d.name == k {
+            return Some(d.place);
+        }
+        rest = more;
+    }
+    find_one(rest, k)
 }
 
 pub fn mean(labels: &[Entry], k: u64) -> Value
