@@ -18,7 +18,7 @@ use Rattle.std.specs.Option.{option_map, option_map_or}
 use Rattle.expr.specs.declared.Value.{Value}
 use Rattle.expr.specs.Value.{signed_word}
 use Rattle.expr.specs.Parts.{named, led_by}
-use Rattle.std.specs.List.{find, prefix_len}
+use Rattle.std.specs.List.{find}
 use Rattle.expr.specs.declared.Entry.{Entry}
 use Rattle.expr.specs.declared.Fault.{Fault}
 use Rattle.expr.specs.Expr.{Read}
@@ -58,16 +58,6 @@ run_most (c ∷ s) = go (named c) (run_most s)
     go : (t : Bool) → run_of s ≤ length s → cond t (suc (run_of s)) 0 ≤ suc (length s)
     go true h = omega arith
     go false h = omega arith
-
--- they are the bytes from the front on that are letters or digits
-pub run_prefix : (s : List ℕ) → prefix_len named s ≡ run_of s
-unfolding run_of
-run_prefix [] = refl
-run_prefix (c ∷ s) = go (named c) (run_prefix s)
-  where
-    go : (t : Bool) → prefix_len named s ≡ run_of s → cond t (1 + prefix_len named s) 0 ≡ cond t (suc (run_of s)) 0
-    go true h = omega arith
-    go false h = refl
 
 -- what is read of a part is not longer than the whole
 pub size_in : (s : List ℕ) (n x : ℕ) → x ≤ length (take n s) → x ≤ length s

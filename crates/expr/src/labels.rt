@@ -1,7 +1,6 @@
 // Labels: names, their numbers, and where they stand.
-ghost use Rattle.std.specs.Prelude.{◌≡◌, cond, Some, None, get_or};
-ghost use Rattle.std.specs.List.{prefix_len};
-ghost use Rattle.expr.specs.Expr.{is_letter, is_digit, rank_of, key_of, is_name, meaning, labels_in, found};
+ghost use Rattle.std.specs.Prelude.{◌≡◌, cond, Some, None, ◌≤◌, length, get_or};
+ghost use Rattle.expr.specs.Expr.{is_letter, is_digit, run_of, rank_of, key_of, is_name, meaning, labels_in, found};
 ghost use Rattle.expr.specs.Parts.{named, led_by};
 
 use crate::{Entry, Value};
@@ -31,11 +30,16 @@ fn is_named(c: u8) -> bool
     is_letter(c) || is_digit(c)
 }
 
-// How many letters and digits lead.
+// How many letters and digits lead. By `take_while` and `count` a line of an assembler text takes some 70 instructions more.
 pub fn run(s: &[u8]) -> usize
-    ensures { result ≡ prefix_len named s.now }
+    ensures { (result ≡ run_of s.now) × (result ≤ length s.now) }
 {
-    s.iter().take_while(|c| is_named(**c)).count()
+    for (i, c) in s.iter().enumerate() {
+        if !is_named(*c) {
+            return i;
+        }
+    }
+    s.len()
 }
 
 // What a letter or a digit is worth in a name's number.
@@ -51,7 +55,9 @@ fn rank(c: u8) -> Option<u64>
     }
 }
 
-// The number of the letters and digits that lead, and how many they are; none where they are more than twelve, so that the number fits.
+// The number of the letters and digits that lead, and how many they are; none where they are more than twelve, so that the number fits. Inlined, it takes some
+// 120 instructions less for a line of an assembler text.
+#[inline(always)]
 pub fn lead(s: &[u8]) -> Option<(u64, usize)>
     ensures { result ≡ led_by s.now }
 {
@@ -82,11 +88,33 @@ pub fn label(s: &[u8]) -> u64
     }
 }
 
-// Where the first label stands whose name has that number.
-pub fn find(labels: &[Entry], k: u64) -> Option<u32>
+fn find_one(labels: &[Entry], k: u64) -> Option<u32>
     ensures { result ≡ found labels.now k }
 {
     labels.iter().find(|l| l.name == k).map(|l| l.place)
+}
+
+// Where the first label stands whose name has that number. Four at a time: texts look for many labels.
+pub fn find(labels: &[Entry], k: u64) -> Option<u32>
+    ensures { result ≡ found labels.now k }
+{
+    let mut rest = labels;
+    while let [a, b, c, d, more @ ..] = rest {
+        if a.name == k {
+            return Some(a.place);
+        }
+        if b.name == k {
+            return Some(b.place);
+        }
+        if c.name == k {
+            return Some(c.place);
+        }
+        if d.name == k {
+            return Some(d.place);
+        }
+        rest = more;
+    }
+    find_one(rest, k)
 }
 
 pub fn mean(labels: &[Entry], k: u64) -> Value
