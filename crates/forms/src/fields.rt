@@ -70,9 +70,13 @@ pub fn cut_line(s: &[u8]) -> Cut
     }
 }
 
-#[tactic(auto, using(crate::proofs::Laws::tabs_counted))]
+// A loop that a filtered count would be at 70 instructions a line more.
 pub fn tabs_in(l: &[u8]) -> usize
     ensures { (result ≡ tabs_in l.now) × (result ≤ length l.now) }
 {
-    l.iter().filter(|c| **c == b'\t').count()
+    let mut n = 0;
+    for c in l {
+        n += usize::from(*c == b'\t');
+    }
+    n
 }
