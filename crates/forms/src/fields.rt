@@ -70,7 +70,7 @@ pub fn cut_line(s: &[u8]) -> Cut
     }
 }
 
-// A loop that a filtered count would be at 70 instructions a line more.
+// `filter` and `count` in place of the loop take 64 instructions a line more, of about 3,000.
 pub fn tabs_in(l: &[u8]) -> usize
     ensures { (result ≡ tabs_in l.now) × (result ≤ length l.now) }
 {
