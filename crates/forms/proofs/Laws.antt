@@ -22,15 +22,9 @@ use lib.Seq.{drop-cons, drop-drop, length-take-le}
 use borrow.Author.Tests.{eqb-true, ltb-true, ltb-false, le-ltb}
 use Rattle.word.specs.Bits.{num}
 use Rattle.expr.proofs.Laws.{beyond}
-use Rattle.forms.specs.Form.{body_of, tabs_in, onto_first, lines_of}
+use Rattle.forms.specs.Form.{tabs_in, onto_first, lines_of}
 use Rattle.forms.specs.Says.{bits_of}
 use Rattle.forms.specs.Parts.{line_size, first_line, stop_of, end_of, stop_at, end_at, past_tab, with_entry, entered}
-
--- ---- a line without bytes
-
-pub no_body : (l : List ℕ) → length l ≡ 0 → l ≡ body_of l
-no_body [] e = refl
-no_body (c ∷ l) e = absurd (omega arith)
 
 -- ---- what an iterator answers
 

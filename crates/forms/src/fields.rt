@@ -42,6 +42,7 @@ fn body(l: &[u8]) -> &[u8]
 }
 
 // The fields of the first line, in one pass. The last byte of a text stands in no field: it is a newline, or the last line is of unknown form.
+#[tactic(auto, unfolding(crate::specs::Parts::cut_in, crate::specs::Parts::from_at, crate::specs::Parts::to_at))]
 pub fn cut_line(s: &[u8]) -> Cut
     ensures { result ≡ cut_of s.now }
 {
