@@ -3,10 +3,10 @@
 use Prim.Native.Nat.{ℕ, suc, ◌+◌, ◌-◌, ◌<◌, ◌≤◌}
 use mathlib.Core.Path.{◌≡◌, refl, sym, ap, subst, ◌∙◌}
 use mathlib.Core.Bool.{Bool, true, false, cond, not, ◌||◌}
-use Rattle.std.proofs.Common.{Option, Some, None, one-add, zero-add, ltb}
-use Rattle.std.specs.List.{count_by, position_or_len}
+use Rattle.std.proofs.Common.{Option, Some, None, one-add, ltb}
+use Rattle.std.specs.List.{position_or_len}
 use Rattle.std.specs.Option.{unwrap_or}
-use Rattle.std.proofs.lemmas.List.Recursion.{is_count_by, is_position_or_len}
+use Rattle.std.proofs.lemmas.List.Recursion.{is_position_or_len}
 use Rattle.std.proofs.lemmas.List.Sums.{prefix_len-le-length}
 use mathlib.Core.List.{List, [], ◌∷◌}
 use native.Mathlib.Numerals.{add-one}
@@ -22,25 +22,11 @@ use lib.Seq.{drop-cons, drop-drop, length-take-le}
 use borrow.Author.Tests.{eqb-true, ltb-true, ltb-false, le-ltb}
 use Rattle.word.specs.Bits.{num}
 use Rattle.expr.proofs.Laws.{beyond}
-use Rattle.forms.specs.Form.{body_of, tabs_in, onto_first, lines_of}
+use Rattle.forms.specs.Form.{tabs_in, onto_first, lines_of}
 use Rattle.forms.specs.Says.{bits_of}
 use Rattle.forms.specs.Parts.{line_size, first_line, stop_of, end_of, stop_at, end_at, past_tab, with_entry, entered}
 
--- ---- a line without bytes
-
-pub no_body : (l : List ℕ) → length l ≡ 0 → l ≡ body_of l
-no_body [] e = refl
-no_body (c ∷ l) e = absurd (omega arith)
-
 -- ---- what an iterator answers
-
-pub tabs_counted : (l : List ℕ) → count_by (λ x. eqb x 9) l ≡ tabs_in l
-unfolding tabs_in
-tabs_counted l = sym (is_count_by tabs_in (λ x. eqb x 9) refl (λ x xs. one_more (eqb x 9) (tabs_in xs)) l)
-  where
-    one_more : (t : Bool) (n : ℕ) → num t + n ≡ cond t (1 + n) n
-    one_more true n = refl
-    one_more false n = zero-add n
 
 -- the first place that passes, or else the length
 first_or_all : (p : ℕ → Bool) (l : List ℕ) (r : Option ℕ) → r ≡ cond (ltb (position_or_len p l) (length l)) (Some (position_or_len p l)) None
@@ -75,6 +61,14 @@ module _ (t l : List ℕ) (i n : ℕ) (r : Option ℕ) (el : l ≡ drop i t) (en
       (en ∙ first_or_all is_end l r er ∙ sym (is_position_or_len end_of is_end refl (λ x xs. ap (cond (is_end x) 0) (sym (one-add (end_of xs)))) l) ∙ ap end_of el)
 
 -- ---- lists read from one place on
+
+pub tabs_on : (l : List ℕ) (i n : ℕ) → i < length l → n ≡ num (eqb (get_or l i 0) 9) → tabs_in (drop i l) ≡ n + tabs_in (drop (i + 1) l)
+unfolding tabs_in
+tabs_on l i n h e = rw (drop-cons l i 0, add-one, ← e)
+
+pub tabs_none : (l : List ℕ) (i : ℕ) → length l ≤ i → tabs_in (drop i l) ≡ 0
+unfolding tabs_in
+tabs_none l i h = rw (drop_of_length-le l h)
 
 pub entered_on : (l : List ℕ) (i : ℕ) (t : List ℕ) → i < length l → entered i (drop i l) t ≡ entered (i + 1) (drop (i + 1) l) (with_entry t (get_or l i 0) i)
 unfolding entered

@@ -10,6 +10,7 @@ use word::{ByteAddr, HalfDisp, Width};
 // What fits no place: in no field's range. It is no `None`, since the definitions scaled, halves_to and words_to say this number.
 const UNFIT: u32 = 1073741824;
 
+#[tactic(auto, using(crate::proofs::Laws::turned_again, crate::proofs::Laws::its_bits, crate::proofs::Laws::whole_bits))]
 pub fn bits_of(z: i32) -> u32
     ensures { result ≡ bits_of z }
 {

@@ -1,4 +1,4 @@
-use Rattle.std.proofs.Common.{◌≡◌, ℕ, get_or, length, rules, arith}
+use Rattle.std.proofs.Common.{◌≡◌, get_or, rules, arith}
 use Rattle.forms.proofs.Registers.{other_letter, one_digit, two_digits}
 use Rattle.forms.proofs.shapes.register.Goals as goal
 

@@ -1,4 +1,4 @@
-use Rattle.std.proofs.Common.{◌<◌, ◌≤◌, length, sym, ◌∙◌}
+use Rattle.std.proofs.Common.{◌<◌, length, sym, ◌∙◌}
 use Rattle.forms.specs.Parts.{slots}
 use Rattle.forms.proofs.Laws.{entered_on, entered_end}
 use Rattle.forms.proofs.Mnemonics.{all_names, few_letters}
