@@ -19,6 +19,7 @@ fn digit(c: u8) -> u32
 }
 
 // What does not fit 32 bits is no number, however many digits follow. Rust's from_str_radix would take a sign too.
+#[tactic(auto, using(crate::proofs::Laws::number_on, crate::proofs::Laws::number_stop, crate::proofs::Laws::number_none, crate::proofs::Laws::word_none, crate::proofs::Laws::word_first))]
 fn digits(base: u32, word: &[u8]) -> Option<u32>
     requires { (1 ≤ base) × (base ≤ 16) }
     ensures { result ≡ word_of base word.now }
