@@ -119,7 +119,7 @@ long_is_bad Phase.Bad l m k h = refl
 
 -- ---- bytes and lines
 
-abbrev reader : Phase → ℕ → ℕ → Fault → Reader
+abbrev reader : Phase → ℕ → ℕ → Option Fault → Reader
 reader p n u f = record { phase = p; number = n; used = u; fault = f }
 
 abbrev answer_fed : Fed → List ℕ
@@ -136,7 +136,7 @@ pub record Holds (u : ℕ) (line p : List ℕ) : Type 0 where
 
 -- from there on, bytes and lines come to the same answer
 abbrev Alike : List ℕ → Type 0
-Alike t = (ph : Phase) (n u : ℕ) (f : Fault) (line p m : List ℕ) (k : Marks) → Holds u line p
+Alike t = (ph : Phase) (n u : ℕ) (f : Option Fault) (line p m : List ℕ) (k : Marks) → Holds u line p
     → answer_fed (feed_of t (fed (reader ph n u f) line m k)) ≡ answer_told (after_lines (lines_of p t) (script (told ph m k) n)) (left_of p t)
 
 many : (u : ℕ) (line p : List ℕ) → Holds u line p → u ≡ length p
@@ -163,7 +163,7 @@ bad_told (b ∷ t) p m k n = go (eqb b 10) (bad_told t [] m k n) (bad_told t (p 
     go true x y = x
     go false x y = y
 
-bad_fed : (t line m : List ℕ) (k : Marks) (n u : ℕ) (f : Fault) → answer_fed (feed_of t (fed (reader Phase.Bad n u f) line m k)) ≡ bad_text n
+bad_fed : (t line m : List ℕ) (k : Marks) (n u : ℕ) (f : Option Fault) → answer_fed (feed_of t (fed (reader Phase.Bad n u f) line m k)) ≡ bad_text n
 unfolding answered
 bad_fed t line m k n u f =
     let s : Kept (fed (reader Phase.Bad n u f) line m k) (feed_of t (fed (reader Phase.Bad n u f) line m k)) = bad_stays t (fed (reader Phase.Bad n u f) line m k) refl in

@@ -6,26 +6,20 @@ ghost use Rattle.script.specs.Fault.{good, found, ends_word, letters_in, bad_dig
 use crate::lines::{is_even, is_inside};
 use crate::{Fault, Phase, Reader, Reason};
 
-fn early_fault(reason: Reason) -> Fault
+fn early_fault(reason: Reason) -> Option<Fault>
     ensures { result ≡ early reason }
 {
-    Fault {
+    Some(Fault {
         reason,
         place: 0,
         byte: 0,
-    }
+    })
 }
 
-pub fn no_fault() -> Fault
-    ensures { result ≡ good }
-{
-    early_fault(Reason::Nothing)
-}
-
-fn found_at(reason: Reason, at: usize, l: &[u8]) -> Fault
+fn found_at(reason: Reason, at: usize, l: &[u8]) -> Option<Fault>
     ensures { result ≡ found reason at l.now }
 {
-    match l.get(at) {
+    Some(match l.get(at) {
         Some(b) => Fault {
             reason,
             place: at + 1,
@@ -36,7 +30,7 @@ fn found_at(reason: Reason, at: usize, l: &[u8]) -> Fault
             place: l.len() + 1,
             byte: b'\n',
         },
-    }
+    })
 }
 
 fn ends_word(c: u8) -> bool
@@ -65,7 +59,7 @@ fn is_bad_address(d: usize, n: usize) -> bool
 
 // `rest` is what is wrong beyond the form of the field, which starts at `at`.
 #[tactic(auto, unfolding(crate::specs::Fault::decimal_fault))]
-fn decimal_fault(at: usize, l: &[u8], f: &[u8], rest: Fault) -> Fault
+fn decimal_fault(at: usize, l: &[u8], f: &[u8], rest: Option<Fault>) -> Option<Fault>
     requires { at ≤ 32 }
     ensures { result ≡ decimal_fault at l.now f.now rest }
 {
@@ -80,7 +74,7 @@ fn decimal_fault(at: usize, l: &[u8], f: &[u8], rest: Fault) -> Fault
 }
 
 #[tactic(auto, unfolding(crate::specs::Fault::address_fault))]
-fn address_fault(at: usize, l: &[u8], f: &[u8], rest: Fault) -> Fault
+fn address_fault(at: usize, l: &[u8], f: &[u8], rest: Option<Fault>) -> Option<Fault>
     requires { at ≤ 32 }
     ensures { result ≡ address_fault at l.now f.now rest }
 {
@@ -92,7 +86,7 @@ fn address_fault(at: usize, l: &[u8], f: &[u8], rest: Fault) -> Fault
 }
 
 #[tactic(auto, unfolding(crate::specs::Fault::bytes_fault))]
-fn bytes_fault(l: &[u8], h: &[u8], rest: Fault) -> Fault
+fn bytes_fault(l: &[u8], h: &[u8], rest: Option<Fault>) -> Option<Fault>
     ensures { result ≡ bytes_fault l.now h.now rest }
 {
     let d = text::digits_in(16, 32, h);
@@ -106,44 +100,44 @@ fn bytes_fault(l: &[u8], h: &[u8], rest: Fault) -> Fault
 }
 
 #[tactic(auto, unfolding(crate::specs::Fault::limit_fault))]
-fn limit_fault(r: Option<u32>, l: &[u8]) -> Fault
+fn limit_fault(r: Option<u32>, l: &[u8]) -> Option<Fault>
     ensures { result ≡ limit_fault r l.now }
 {
     match r {
         Some(n) if n > 16384 => found_at(Reason::TooLarge, 4, l),
-        _ => no_fault(),
+        _ => None,
     }
 }
 
 #[tactic(auto, unfolding(crate::specs::Fault::away_fault))]
-fn away_fault(x: Option<u32>, c: usize, at: usize, l: &[u8], n: u32) -> Fault
+fn away_fault(x: Option<u32>, c: usize, at: usize, l: &[u8], n: u32) -> Option<Fault>
     requires { c < 9223372036854775808 }
     ensures { result ≡ away_fault x c at l.now n }
 {
     match x {
         Some(a) if c != 0 && !is_inside(a, c, n) => found_at(Reason::Outside, at, l),
-        _ => no_fault(),
+        _ => None,
     }
 }
 
 #[tactic(auto, unfolding(crate::specs::Fault::count_fault))]
-fn count_fault(x: Option<u32>, r: Option<u32>, l: &[u8], n: u32) -> Fault
+fn count_fault(x: Option<u32>, r: Option<u32>, l: &[u8], n: u32) -> Option<Fault>
     ensures { result ≡ count_fault x r l.now n }
 {
     match r {
-        None => no_fault(),
+        None => None,
         Some(c) => away_fault(x, c as usize, 5, l, n),
     }
 }
 
-fn number_fault(l: &[u8], r: &[u8]) -> Fault
+fn number_fault(l: &[u8], r: &[u8]) -> Option<Fault>
     ensures { result ≡ number_fault l.now r.now }
 {
     let rest = limit_fault(text::decimal(r), l);
     decimal_fault(4, l, r, rest)
 }
 
-fn put_fault(l: &[u8], r: &[u8], n: u32) -> Fault
+fn put_fault(l: &[u8], r: &[u8], n: u32) -> Option<Fault>
     ensures { result ≡ put_fault l.now r.now n }
 {
     let f = text::before(r);
@@ -152,7 +146,7 @@ fn put_fault(l: &[u8], r: &[u8], n: u32) -> Fault
     address_fault(3, l, f, bytes_fault(l, h, away))
 }
 
-fn mark_fault(l: &[u8], r: &[u8], n: u32) -> Fault
+fn mark_fault(l: &[u8], r: &[u8], n: u32) -> Option<Fault>
     ensures { result ≡ mark_fault l.now r.now n }
 {
     let f = text::before(r);
@@ -162,7 +156,7 @@ fn mark_fault(l: &[u8], r: &[u8], n: u32) -> Fault
 }
 
 #[tactic(auto, unfolding(crate::specs::Fault::first_fault))]
-fn first_fault(l: &[u8]) -> Fault
+fn first_fault(l: &[u8]) -> Option<Fault>
     ensures { result ≡ first_fault l.now }
 {
     if text::is_same(text::before(l), b"mem") {
@@ -172,7 +166,7 @@ fn first_fault(l: &[u8]) -> Fault
 }
 
 #[tactic(auto, unfolding(crate::specs::Fault::body_fault))]
-fn body_fault(l: &[u8], w: &[u8], r: &[u8], n: u32) -> Fault
+fn body_fault(l: &[u8], w: &[u8], r: &[u8], n: u32) -> Option<Fault>
     ensures { result ≡ body_fault l.now w.now r.now n }
 {
     if text::is_same(w, b"at") {
@@ -188,7 +182,7 @@ fn body_fault(l: &[u8], w: &[u8], r: &[u8], n: u32) -> Fault
 }
 
 #[tactic(auto, unfolding(crate::specs::Fault::fault_of))]
-pub fn line_fault(p: Phase, f: Fault, l: &[u8]) -> Fault
+pub fn line_fault(p: Phase, f: Option<Fault>, l: &[u8]) -> Option<Fault>
     ensures { result ≡ fault_of p f l.now }
 {
     match p {
@@ -201,7 +195,7 @@ pub fn line_fault(p: Phase, f: Fault, l: &[u8]) -> Fault
 
 // After the last part: why the answer is `bad`, or that nothing is wrong.
 #[tactic(auto, unfolding(crate::specs::Fault::end_fault))]
-pub fn why(r: Reader) -> Fault
+pub fn why(r: Reader) -> Option<Fault>
     ensures { result ≡ why_of r }
 {
     let ended = r.used == 0;
@@ -212,7 +206,7 @@ pub fn why(r: Reader) -> Fault
     }
 }
 
-fn unread(ended: bool) -> Fault
+fn unread(ended: bool) -> Option<Fault>
     ensures { result ≡ early (cond ended Reason.Missing Reason.Unended) }
 {
     early_fault(if ended {
@@ -222,12 +216,12 @@ fn unread(ended: bool) -> Fault
     })
 }
 
-fn trailing(ended: bool) -> Fault
-    ensures { result ≡ early (cond ended Reason.Nothing Reason.AfterRun) }
+fn trailing(ended: bool) -> Option<Fault>
+    ensures { result ≡ cond ended good (early Reason.AfterRun) }
 {
-    early_fault(if ended {
-        Reason::Nothing
+    if ended {
+        None
     } else {
-        Reason::AfterRun
-    })
+        early_fault(Reason::AfterRun)
+    }
 }

@@ -4,7 +4,7 @@ ghost use Rattle.marks.specs.Memory.{bits};
 ghost use Rattle.script.specs.Line.{blank, unmarked, next_number, number_after};
 ghost use Rattle.script.specs.Reader.{fed, start_of, kept_by, kept_in, reader_after, told_by, fault_by, byte_of, feed_of};
 
-use crate::faults::{line_fault, no_fault};
+use crate::faults::line_fault;
 use crate::lines::whole_line;
 use crate::rooms::{clear, unmark};
 use crate::{Phase, Reader};
@@ -86,7 +86,7 @@ pub fn start(m: &mut [u8; 16384], k: &mut [u8; 2048]) -> Reader
         phase: Phase::First,
         number: 1,
         used: 0,
-        fault: no_fault(),
+        fault: None,
     }
 }
 

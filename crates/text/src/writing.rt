@@ -1,4 +1,4 @@
-// Text written into a lent room, from a place on; each function answers where the next byte goes.
+// Text written into a lent room, from a place on; each function answers where the next byte goes. The libraries have no heap, so no String is filled.
 ghost use Rattle.std.specs.Prelude.{◌≡◌};
 ghost use Rattle.text.specs.Digits.{hex_text, half_text, decimal_text, signed_text};
 ghost use Rattle.text.specs.Pages.{page, one_on, write_on};
@@ -49,6 +49,7 @@ fn spelled(room: &mut [u8; 20], n: u64) -> &[u8]
 {
     let mut from: usize = 20;
     let mut rest = n;
+    // What is left of n ends the loop, and not the room.
     while 10 <= rest {
         from -= 1;
         room[from] = glyph(rest % 10);
