@@ -2,7 +2,9 @@
 -- Assumes nothing.
 use Prim.Native.Nat.{ℕ, suc, ◌+◌, ◌-◌, ◌<◌, ◌≤◌}
 use mathlib.Core.Path.{◌≡◌, refl, sym, ap, subst, ◌∙◌}
-use mathlib.Core.Bool.{Bool, true, false, cond, not, ◌||◌}
+use mathlib.Core.Bool.{Bool, true, false, cond, not, ◌||◌, ◌&&◌}
+use lib.Pointwise.{pointwise}
+use Rattle.text.specs.Fields.{same_of}
 use Rattle.std.proofs.Common.{Option, Some, None, one-add, ltb}
 use Rattle.std.specs.List.{position_or_len}
 use Rattle.std.specs.Option.{unwrap_or}
@@ -26,7 +28,14 @@ use Rattle.forms.specs.Form.{tabs_in, onto_first, lines_of}
 use Rattle.forms.specs.Says.{bits_of}
 use Rattle.forms.specs.Parts.{line_size, first_line, stop_of, end_of, stop_at, end_at, past_tab, with_entry, entered}
 
--- ---- what an iterator answers
+-- ---- what a slice and an iterator answer
+
+pub same_bytes : (a b : List ℕ) → same_of a b ≡ pointwise eqb a b
+unfolding same_of
+same_bytes [] [] = refl
+same_bytes [] (y ∷ b) = refl
+same_bytes (x ∷ a) [] = refl
+same_bytes (x ∷ a) (y ∷ b) = ap (λ (t : Bool). eqb x y && t) (same_bytes a b)
 
 -- the first place that passes, or else the length
 first_or_all : (p : ℕ → Bool) (l : List ℕ) (r : Option ℕ) → r ≡ cond (ltb (position_or_len p l) (length l)) (Some (position_or_len p l)) None

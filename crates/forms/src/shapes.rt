@@ -138,15 +138,12 @@ fn below_limit(limit: u32, n: Option<u32>) -> u32
 }
 
 // The number after a register's or an SFR's letters; the limit where there is none.
-#[tactic(auto, unfolding(crate::specs::Form::numbered_of))]
 pub fn numbered(letters: &[u8], limit: u32, field: &[u8]) -> u32
     ensures { result ≡ numbered_of letters.now limit field.now }
 {
-    let n = letters.len();
-    if text::is_same(text::start_part(field, n), letters) {
-        below_limit(limit, text::decimal(text::end_part(field, n)))
-    } else {
-        limit
+    match field.strip_prefix(letters) {
+        Some(rest) => below_limit(limit, text::decimal(rest)),
+        None => limit,
     }
 }
 

@@ -31,6 +31,7 @@ fn is_out_of(length: usize, start: usize, end: usize) -> bool
 }
 
 // The lines of a range and their length. Kept lines stand one after the other, others each over the one before it.
+// How far the next line is, is known only once its instruction is read, so no range goes over the places.
 fn put_lines(out: &mut [u8], image: &[u8], start: u32, end: usize, keep: bool) -> usize
     requires { (start ≤ end) × (end ≤ 65536) × (cond keep (length (listing_of image.now start end)) 48 ≤ length out.old) }
     ensures value { result ≡ length (listing_of image.now start end) }
