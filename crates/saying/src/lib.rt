@@ -1,7 +1,9 @@
 // What a program says on standard error where the system could not do what was asked of it.
 #![tactic(auto)]
 
+ghost use Rattle.std.specs.Prelude.{OnOk};
 ghost use Rattle.std.specs.Io.{StartsWith};
+ghost use Rattle.saying.specs.Said.{TellsFailure};
 
 use std::io::{Cursor, Error, ErrorKind, Print, Write};
 use std::{io, str};
@@ -20,13 +22,18 @@ fn words(said: &[u8]) -> &[u8]
 }
 
 // A line: what failed, and why.
-fn write_failure(to: &mut impl Write, what: &[u8], e: Error) -> io::Result<()> {
+fn write_failure<W: Write>(to: &mut W, what: &[u8], e: Error) -> io::Result<()>
+    ensures { OnOk result (TellsFailure (W.contents to.old) (W.contents to.new) what.now) }
+{
     let mut said = Cursor::new([0u8; 128]);
     let _ = write!(said, "{e}");
+    let n = said.position() as usize;
+    let why = words(text::start_part(said.get_ref(), n));
     to.write_all(what)?;
     to.write_all(b": ")?;
-    to.write_all(words(text::start_part(said.get_ref(), said.position() as usize)))?;
-    to.write_all(b"\n")
+    to.write_all(why)?;
+    to.write_all(b"\n")?;
+    Ok(())
 }
 
 pub fn say_failure(err: &impl Print, what: &[u8], e: Error) {
