@@ -26,10 +26,10 @@ use Rattle.text.proofs.Pages.{write_append}
 use Rattle.forms.specs.declared.Sort.{Sort}
 use Rattle.forms.specs.declared.What.{What}
 use Rattle.asm.specs.declared.Refusal.{Refusal}
-use Rattle.asm.specs.declared.Assembled.{Assembled}
+use Rattle.asm.specs.Assemble.{Assembled}
 use Rattle.forms.specs.Form.{body_of, lines_of, what_in, shape_of, is_known_as, is_known}
 use Rattle.asm.specs.Parts.{takes_sum, all_known, check_sure}
-use Rattle.asm.specs.Assemble.{is_set, has_room, is_new, with_name, with_label, label_for, bytes_for, labels_of, address_of, label_in, sum_at, line_value, line_bits, before, refused_if, label_check, fit_check, value_check, line_check, room_check, verdict_of, line_bytes, code_of, is_outside}
+use Rattle.asm.specs.Assemble.{line_of, end_of, is_set, has_room, is_new, with_name, with_label, label_for, bytes_for, labels_of, address_of, label_in, sum_at, line_value, line_bits, before, refused_if, label_check, fit_check, value_check, line_check, room_check, verdict_of, line_bytes, code_of, is_outside}
 
 -- ---- a line by its fields
 
@@ -134,6 +134,18 @@ pub fit_some : (e : Encoded) (y : Result Unit Refusal) → before (fit_check (So
 fit_some (Encoded.Half h) y = refl
 fit_some (Encoded.Pair h s) y = refl
 
+-- what is answered the same has the same parts
+pub done_same : (i e j d : ℕ) → ◌≡◌ {A = Assembled} (Ok (i, e)) (Ok (j, d)) → (i ≡ j) × (e ≡ d)
+done_same i e j d p = (ap line_of p, ap end_of p)
+
+refused : Assembled → Refusal
+refused (Ok (i, e)) = Refusal.Start
+refused (Err (r, i)) = r
+
+pub refused_same : (r q : Refusal) (i j : ℕ) → ◌≡◌ {A = Assembled} (Err (r, i)) (Err (q, j)) → (r ≡ q) × (i ≡ j)
+unfolding refused
+refused_same r q i j p = (ap refused p, ap line_of p)
+
 -- one line further in each pass, by what the calls of a loop's round say
 
 pub labels_on : (s r l : List ℕ) (t u : Labels) (a b : ByteAddr) (w : What) (known : Bool) (k n : ℕ)
@@ -152,7 +164,7 @@ module _ (x : List ℕ) (i : ℕ) (h : length x ≤ i) where
   unfolding labels_of
   labels_end t a = rw lines_end
 
-  pub verdict_end : (t : Labels) (s : List ℕ) (p n k : ℕ) → verdict_of t s p n k (lines_of (drop i x)) ≡ Assembled.Done k p
+  pub verdict_end : (t : Labels) (s : List ℕ) (p n k : ℕ) → verdict_of t s p n k (lines_of (drop i x)) ≡ Ok (k, p)
   unfolding verdict_of
   verdict_end t s p n k = rw lines_end
 
@@ -204,7 +216,7 @@ verdict_on s r l z v t w p n m k i j c e f g h q a b d =
 
 pub verdict_stops : (s r l z : List ℕ) (t : Labels) (w : What) (p n m i j : ℕ) (c : Result Unit Refusal) (x : Refusal)
     → lines_of s ≡ l ∷ lines_of r → w ≡ what_in l → n ≡ bytes_for true w → c ≡ line_check t z (address_of p) (room_check p n m) w l → c ≡ Err x → j ≡ suc i
-    → Assembled.Refused x j ≡ verdict_of t z p m i (lines_of s)
+    → Err (x, j) ≡ verdict_of t z p m i (lines_of s)
 unfolding verdict_of bytes_for
 verdict_stops s r l z t w p n m i j c x e f g h q d =
     let u : line_check t z (address_of p) (room_check p (shape_of (what_in l)).size m) (what_in l) l ≡ Err x = rw (← f, ← g, ← h) q in

@@ -15,7 +15,6 @@ use Rattle.forms.specs.declared.What.{What}
 use Rattle.forms.specs.declared.Sort.{Sort}
 use Rattle.forms.specs.declared.Shape.{Shape}
 use Rattle.asm.specs.declared.Refusal.{Refusal}
-use Rattle.asm.specs.declared.Assembled.{Assembled}
 
 -- ---- a line of known form
 
@@ -89,18 +88,22 @@ number_of Refusal.Many = 34
 number_of Refusal.Value = 35
 number_of Refusal.Room = 36
 
+-- the number of lines and the address after the last byte, or what is refused and the line
+abbrev pub Assembled : Type 0
+Assembled = Result (ℕ × ℕ) (Refusal × ℕ)
+
 -- what a call answers: 0 or the refusal's number; the number of lines, or the line refused; the address after the last byte, or 0
 abbrev pub reply_of : Assembled → ℕ
-reply_of (Assembled.Done i e) = 0
-reply_of (Assembled.Refused r i) = number_of r
+reply_of (Ok (i, e)) = 0
+reply_of (Err (r, i)) = number_of r
 
 abbrev pub line_of : Assembled → ℕ
-line_of (Assembled.Done i e) = i
-line_of (Assembled.Refused r i) = i
+line_of (Ok (i, e)) = i
+line_of (Err (r, i)) = i
 
 abbrev pub end_of : Assembled → ℕ
-end_of (Assembled.Done i e) = e
-end_of (Assembled.Refused r i) = 0
+end_of (Ok (i, e)) = e
+end_of (Err (r, i)) = 0
 
 -- the first of two checks that refuses
 abbrev pub before : Result Unit Refusal → Result Unit Refusal → Result Unit Refusal
@@ -140,11 +143,11 @@ room_check p n m = refused_if (ltb m (p + n)) Refusal.Room
 
 abbrev pub go_on : Result Unit Refusal → ℕ → Assembled → Assembled
 go_on (Ok _) i rest = rest
-go_on (Err r) i rest = Assembled.Refused r i
+go_on (Err r) i rest = Err (r, i)
 
 -- i lines come before, and the next one stands at p
 unfoldable pub verdict_of : Labels → List ℕ → ℕ → ℕ → ℕ → List (List ℕ) → Assembled
-verdict_of t s p n i [] = Assembled.Done i p
+verdict_of t s p n i [] = Ok (i, p)
 verdict_of t s p n i (l ∷ r) =
     go_on (line_check t s (address_of p) (room_check p (shape_of (what_in l)).size n) (what_in l) l) (suc i)
     (verdict_of t (with_name s (label_in l)) (p + (shape_of (what_in l)).size) n (suc i) r)
@@ -181,11 +184,11 @@ answered x m = record { assembled = x; image = m }
 
 -- "the image unchanged" by a refusal
 abbrev pub image_after : Assembled → List ℕ → ℕ → List ℕ → List ℕ
-image_after (Assembled.Done i e) code s m = (write_on code (page m s)).text
-image_after (Assembled.Refused r i) code s m = m
+image_after (Ok (i, e)) code s m = (write_on code (page m s)).text
+image_after (Err (r, i)) code s m = m
 
 unfoldable pub verdict_in : List ℕ → ℕ → ℕ → Assembled
-verdict_in x s n = cond (is_outside s n) (Assembled.Refused Refusal.Start 0) (verdict_of (text_labels x s) [] s n 0 (lines_of x))
+verdict_in x s n = cond (is_outside s n) (Err (Refusal.Start, 0)) (verdict_of (text_labels x s) [] s n 0 (lines_of x))
 
 unfoldable pub assembled_of : List ℕ → ℕ → List ℕ → Answered
 assembled_of x s m =

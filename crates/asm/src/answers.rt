@@ -9,8 +9,8 @@ pub fn reply(a: Assembled) -> u32
     ensures { result ≡ reply_of a }
 {
     match a {
-        Assembled::Done(_, _) => 0,
-        Assembled::Refused(r, _) => number(r),
+        Ok(_) => 0,
+        Err((r, _)) => number(r),
     }
 }
 
@@ -18,8 +18,8 @@ pub fn line(a: Assembled) -> usize
     ensures { result ≡ line_of a }
 {
     match a {
-        Assembled::Done(lines, _) => lines,
-        Assembled::Refused(_, line) => line,
+        Ok((lines, _)) => lines,
+        Err((_, line)) => line,
     }
 }
 
@@ -27,8 +27,8 @@ pub fn end(a: Assembled) -> usize
     ensures { result ≡ end_of a }
 {
     match a {
-        Assembled::Done(_, after) => after,
-        Assembled::Refused(_, _) => 0,
+        Ok((_, after)) => after,
+        Err(_) => 0,
     }
 }
 

@@ -23,8 +23,4 @@ pub enum Refusal {
 }
 
 // The number of lines and the address after the last byte, or what is refused and the line.
-#[derive(Clone, Copy)]
-pub enum Assembled {
-    Done(usize, usize),
-    Refused(Refusal, usize),
-}
+pub type Assembled = Result<(usize, usize), (Refusal, usize)>;

@@ -6,7 +6,7 @@ ghost use Rattle.forms.specs.Form.{lines_of};
 ghost use Rattle.forms.specs.Parts.{first_line, slots};
 ghost use Rattle.asm.specs.Parts.{assembled_with, all_known};
 ghost use Rattle.forms.specs.Says.{bytes_in};
-ghost use Rattle.asm.specs.Assemble.{address_of, label_for, bytes_for, labels_of, verdict_of, code_of, is_outside, answered, image_after, assembled_of};
+ghost use Rattle.asm.specs.Assemble.{address_of, label_for, bytes_for, labels_of, verdict_of, code_of, is_outside, answered, assembled_of};
 
 use crate::labels::Table;
 use crate::lines::{Line, room_check};
@@ -119,13 +119,13 @@ impl Source<'_> {
             let a = address_of(to);
             lines += 1;
             if let Err(r) = line.check(sure, w, labels, &seen, a, room) {
-                return Assembled::Refused(r, lines);
+                return Err((r, lines));
             }
             seen.add(line.label(), a);
             to += n as usize;
             at += line.cut.end + 1;
         }
-        Assembled::Done(lines, to)
+        Ok((lines, to))
     }
 
     // The bytes of all lines, none of which is refused.
@@ -146,22 +146,13 @@ impl Source<'_> {
     }
 
     // Only a text that is not refused is written.
-    fn put_judged(&self, verdict: Assembled, labels: &[Entry], image: &mut [u8]) -> Assembled
-        ensures value { result ≡ verdict }
-        ensures image_after { image.new ≡ image_after verdict (code_of (labels_in labels.now) (address_of self.now.start) (lines_of self.now.text.now)) self.now.start image.old }
-    {
-        if let Assembled::Done(_, _) = verdict {
-            self.put_code(labels, image);
-        }
-        verdict
-    }
-
     fn assemble_with(&self, sure: bool, labels: &[Entry], image: &mut [u8]) -> Assembled
         requires { (self.now.start ≤ length image.old) × (sure ≡ true → all_known (lines_of self.now.text.now) ≡ true) }
         ensures { answered result image.new ≡ assembled_with (labels_in labels.now) (lines_of self.now.text.now) self.now.start image.old }
     {
-        let verdict = self.judge(sure, image.len(), labels);
-        self.put_judged(verdict, labels, image)
+        let (lines, after) = self.judge(sure, image.len(), labels)?;
+        self.put_code(labels, image);
+        Ok((lines, after))
     }
 }
 
@@ -169,7 +160,7 @@ pub fn assemble(text: &[u8], start: usize, image: &mut [u8]) -> Assembled
     ensures { answered result image.new ≡ assembled_of text.now start image.old }
 {
     if is_outside(start, image.len()) {
-        return Assembled::Refused(Refusal::Start, 0);
+        return Err((Refusal::Start, 0));
     }
     let table = table();
     let source = Source {

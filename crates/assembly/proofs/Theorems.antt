@@ -15,7 +15,6 @@ use Rattle.text.specs.Pages.{Page}
 use Rattle.text.proofs.Pages.{written_at}
 use Rattle.expr.specs.Expr.{Labels, none, meaning}
 use Rattle.expr.specs.Value.{signed_word}
-use Rattle.expr.specs.Expr.{Read as Valued}
 use Rattle.expr.specs.declared.Value.{Value}
 use Rattle.forms.specs.Form.{lines_of, body_of, shape_of, is_known_as}
 use Rattle.forms.specs.Says.{bytes_in}
@@ -23,7 +22,8 @@ use Rattle.asm.specs.Assemble.{address_of, line_value, line_bits, is_set, labels
 use Rattle.forms.specs.declared.What.{What}
 use Rattle.asm.specs.declared.Refusal.{Refusal}
 use Rattle.expr.proofs.Laws.{got_same}
-use Rattle.asm.specs.declared.Assembled.{Assembled}
+use Rattle.asm.specs.Assemble.{Assembled}
+use Rattle.asm.proofs.Laws.{done_same}
 use Rattle.assembly.specs.Assembly.{Says, faults_of, Lowest, AllFine, Told, text_code, first_at}
 use Rattle.assembly.proofs.Values.{in_32_bits}
 use Rattle.assembly.proofs.Lines.{Fine, fine, bits_say, line_size_lem}
@@ -59,15 +59,15 @@ module _ (t : Labels) (s : List ℕ) (a : ByteAddr) (y : Result Unit Refusal) (w
 -- 2. A text is assembled if its start is even and inside the image and each line is fine at its place ..
 module _ (x : List ℕ) (s : ℕ) (m : List ℕ) where
   pub fine_assembles : is_outside s (length m) ≡ false → AllFine (text_labels x s) [] s (length m) (lines_of x)
-      → (assembled_of x s m).assembled ≡ Assembled.Done (length (lines_of x)) (s + length (text_code x s))
+      → (assembled_of x s m).assembled ≡ Ok (length (lines_of x), s + length (text_code x s))
   unfolding assembled_of verdict_in
   fine_assembles h f =
       let e : 0 + length (lines_of x) ≡ length (lines_of x) = omega arith in
       rw h (fine_done (text_labels x s) [] s (length m) 0 (lines_of x) f ∙ rw e)
 
   -- .. and only then. What is answered is the number of lines and the address after the last byte, which is in the image ..
-  module _ (i e : ℕ) (done : (assembled_of x s m).assembled ≡ Assembled.Done i e) where
-    judged : verdict_in x s (length m) ≡ Assembled.Done i e
+  module _ (i e : ℕ) (done : (assembled_of x s m).assembled ≡ Ok (i, e)) where
+    judged : verdict_in x s (length m) ≡ Ok (i, e)
     unfolding assembled_of
     judged = done
 
@@ -78,10 +78,10 @@ module _ (x : List ℕ) (s : ℕ) (m : List ℕ) where
     lines_fine = all_fine (text_labels x s) [] s (length m) 0 i e (lines_of x) (done_inside x s (length m) i e judged).1
 
     pub lines_counted : i ≡ length (lines_of x)
-    lines_counted = let d = fine_assembles start_inside lines_fine in cc
+    lines_counted = (done_same i e _ _ (sym done ∙ fine_assembles start_inside lines_fine)).0
 
     pub ends_after_code : e ≡ s + length (text_code x s)
-    ends_after_code = let d = fine_assembles start_inside lines_fine in cc
+    ends_after_code = (done_same i e _ _ (sym done ∙ fine_assembles start_inside lines_fine)).1
 
     code_in : s + length (text_code x s) ≤ length m
     code_in = code_inside (text_labels x s) [] s (length m) (lines_of x) (start_in s (length m) start_inside) lines_fine
@@ -104,7 +104,7 @@ module _ (x : List ℕ) (s : ℕ) (m : List ℕ) where
     image_length = rw image_written (length-sets m s (text_code x s))
 
   -- 3. A refusal leaves the image, and tells of a start that is odd or past the image, with line 0, or of the first line that is not fine, as that line's check does.
-  module _ (r : Refusal) (i : ℕ) (no : (assembled_of x s m).assembled ≡ Assembled.Refused r i) where
+  module _ (r : Refusal) (i : ℕ) (no : (assembled_of x s m).assembled ≡ Err (r, i)) where
     pub refusal_leaves : (assembled_of x s m).image ≡ m
     unfolding assembled_of
     refusal_leaves = rw no

@@ -16,7 +16,8 @@ use Rattle.expr.specs.Expr.{Labels}
 use Rattle.forms.specs.Form.{onto_first, lines_of, what_in, shape_of}
 use Rattle.asm.specs.Assemble.{address_of, label_in, is_set, has_room, with_name, before, refused_if, label_check, room_check, go_on, verdict_of, code_of, is_outside, text_labels, verdict_in}
 use Rattle.asm.specs.declared.Refusal.{Refusal}
-use Rattle.asm.specs.declared.Assembled.{Assembled}
+use Rattle.asm.specs.Assemble.{Assembled}
+use Rattle.asm.proofs.Laws.{refused_same}
 use Rattle.written.specs.Assembly.{own_label, own_labels, check_at, AllFine, FineThenNot, Told, odd, past, line}
 use Rattle.written.specs.Written.{AllShow}
 use Rattle.written.proofs.Lines.{Fine, fine, line_size_lem, line_shown}
@@ -66,11 +67,11 @@ module _ (t : Labels) (s : List ℕ) (p n : ℕ) (l : List ℕ) (e : check_at t 
   names_after : with_name s (label_in l) ≡ s ++ own_labels l
   names_after = names_on s l here.label
 
-done_fine : (c : Result Unit Refusal) (j i e : ℕ) (rest : Assembled) → go_on c j rest ≡ Assembled.Done i e → (c ≡ (Ok tt)) × (rest ≡ Assembled.Done i e)
+done_fine : (c : Result Unit Refusal) (j i e : ℕ) (rest : Assembled) → go_on c j rest ≡ Ok (i, e) → (c ≡ (Ok tt)) × (rest ≡ Ok (i, e))
 done_fine (Ok _) j i e rest q = (refl, q)
 done_fine (Err r) j i e rest q = let z : ◌≡◌ {A = ℕ} 0 1 = cc in absurd (omega arith)
 
-pub all_fine : (t : Labels) (s : List ℕ) (p n j i e : ℕ) (ls : List (List ℕ)) → verdict_of t s p n j ls ≡ Assembled.Done i e → AllFine t s p n ls
+pub all_fine : (t : Labels) (s : List ℕ) (p n j i e : ℕ) (ls : List (List ℕ)) → verdict_of t s p n j ls ≡ Ok (i, e) → AllFine t s p n ls
 unfolding verdict_of
 all_fine t s p n j i e [] q = tt
 all_fine t s p n j i e (l ∷ r) q =
@@ -112,7 +113,7 @@ all_show t s p n (l ∷ r) f =
     (_, _, refl, c, rw (d, address_on p k) (all_show t (s ++ own_labels l) (p + k) n r f.1))
 
 pub fine_done : (t : Labels) (s : List ℕ) (p n j : ℕ) (ls : List (List ℕ)) → AllFine t s p n ls
-    → verdict_of t s p n j ls ≡ Assembled.Done (j + length ls) (p + length (code_of t (address_of p) ls))
+    → verdict_of t s p n j ls ≡ Ok (j + length ls, p + length (code_of t (address_of p) ls))
 unfolding verdict_of
 fine_done t s p n j [] f =
     let a : j ≡ j + 0 = omega arith in
@@ -126,7 +127,7 @@ fine_done t s p n j (l ∷ r) f =
 
 -- ---- one refused
 
-first_not : (t : Labels) (s : List ℕ) (p n j i : ℕ) (q : Refusal) (ls : List (List ℕ)) → verdict_of t s p n j ls ≡ Assembled.Refused q i
+first_not : (t : Labels) (s : List ℕ) (p n j i : ℕ) (q : Refusal) (ls : List (List ℕ)) → verdict_of t s p n j ls ≡ Err (q, i)
     → (k : ℕ) × (i ≡ suc (j + k)) × FineThenNot t s p n k q ls
 unfolding verdict_of
 first_not t s p n j i q [] e = let z : ◌≡◌ {A = ℕ} 0 1 = cc in absurd (omega arith)
@@ -135,14 +136,13 @@ first_not t s p n j i q (l ∷ r) e = go (check_at t s p n l) refl e (first_not 
     rest : List ℕ → Assembled
     rest s = verdict_of t s (p + (shape_of (what_in l)).size) n (suc j) r
 
-    go : (c : Result Unit Refusal) → check_at t s p n l ≡ c → go_on c (suc j) (rest (with_name s (label_in l))) ≡ Assembled.Refused q i
-        → (rest (s ++ own_labels l) ≡ Assembled.Refused q i → (k : ℕ) × (i ≡ suc (suc j + k)) × FineThenNot t (s ++ own_labels l) (p + (shape_of (what_in l)).size) n k q r)
+    go : (c : Result Unit Refusal) → check_at t s p n l ≡ c → go_on c (suc j) (rest (with_name s (label_in l))) ≡ Err (q, i)
+        → (rest (s ++ own_labels l) ≡ Err (q, i) → (k : ℕ) × (i ≡ suc (suc j + k)) × FineThenNot t (s ++ own_labels l) (p + (shape_of (what_in l)).size) n k q r)
         → (k : ℕ) × (i ≡ suc (j + k)) × FineThenNot t s p n k q (l ∷ r)
     go (Ok _) c e f = let g = f (ap rest (sym (names_after t s p n l c)) ∙ e) in let h = g.1 in (suc g.0, omega arith, (c, g.2))
     go (Err x) c e f =
-        let a : x ≡ q = cc in
-        let b : suc j ≡ i = cc in
-        (0, omega arith, c ∙ ap Err a)
+        let a = refused_same x q (suc j) i e in
+        (0, omega (arith, a.1), c ∙ ap Err a.0)
 
 -- ---- the image
 
@@ -175,24 +175,24 @@ start_is s n = go (eqb (s % 2) 1) refl (ltb n s) refl
 
 module _ (x : List ℕ) (s n i : ℕ) where
   abbrev verdict : Bool → Assembled
-  verdict u = cond u (Assembled.Refused Refusal.Start 0) (verdict_of (text_labels x s) [] s n 0 (lines_of x))
+  verdict u = cond u (Err (Refusal.Start, 0)) (verdict_of (text_labels x s) [] s n 0 (lines_of x))
 
-  pub done_inside : (e : ℕ) → verdict_in x s n ≡ Assembled.Done i e
-      → (s % 2 ≡ 0) × (s ≤ n) × (verdict_of (text_labels x s) [] s n 0 (lines_of x) ≡ Assembled.Done i e)
+  pub done_inside : (e : ℕ) → verdict_in x s n ≡ Ok (i, e)
+      → (s % 2 ≡ 0) × (s ≤ n) × (verdict_of (text_labels x s) [] s n 0 (lines_of x) ≡ Ok (i, e))
   unfolding verdict_in
   done_inside e = go (is_outside s n) (start_is s n)
     where
-      go : (u : Bool) → Start s n u → verdict u ≡ Assembled.Done i e → (s % 2 ≡ 0) × (s ≤ n) × (verdict_of (text_labels x s) [] s n 0 (lines_of x) ≡ Assembled.Done i e)
+      go : (u : Bool) → Start s n u → verdict u ≡ Ok (i, e) → (s % 2 ≡ 0) × (s ≤ n) × (verdict_of (text_labels x s) [] s n 0 (lines_of x) ≡ Ok (i, e))
       go true h q = let z : ◌≡◌ {A = ℕ} 0 1 = cc in absurd (omega arith)
       go false (good a b) q = (a, b, q)
 
-  pub refused_told : (q : Refusal) → verdict_in x s n ≡ Assembled.Refused q i → Told (text_labels x s) s n q i (lines_of x)
+  pub refused_told : (q : Refusal) → verdict_in x s n ≡ Err (q, i) → Told (text_labels x s) s n q i (lines_of x)
   unfolding verdict_in
   refused_told q = go (is_outside s n) (start_is s n)
     where
-      go : (u : Bool) → Start s n u → verdict u ≡ Assembled.Refused q i → Told (text_labels x s) s n q i (lines_of x)
-      go true (is_odd a) e = odd a (cc) (cc)
-      go true (is_past a) e = past a (cc) (cc)
+      go : (u : Bool) → Start s n u → verdict u ≡ Err (q, i) → Told (text_labels x s) s n q i (lines_of x)
+      go true (is_odd a) e = let p = refused_same Refusal.Start q 0 i e in odd a (sym p.0) (sym p.1)
+      go true (is_past a) e = let p = refused_same Refusal.Start q 0 i e in past a (sym p.0) (sym p.1)
       go false (good a b) e =
           let f = first_not (text_labels x s) [] s n 0 i q (lines_of x) e in
           let g = f.1 in

@@ -1,15 +1,21 @@
-use mathlib.Core.Path.{ap, ap₂, ◌∙◌}
-use Rattle.expr.specs.Expr.{labels_in}
-use Rattle.forms.specs.Form.{lines_of}
-use Rattle.asm.specs.Assemble.{address_of, code_of, answered, image_after}
+use Rattle.std.specs.Prelude.{Ok}
+use Prim.Native.Nat.{ℕ}
+use mathlib.Core.List.{List}
+use mathlib.Core.Path.{sym, ap, ◌∙◌}
+use Rattle.std.proofs.lemmas.Result.{err_from_is_err_and}
+use Rattle.text.specs.Pages.{Page}
+use Rattle.asm.specs.Assemble.{answered}
 use Rattle.asm.specs.Parts.{assembled_with}
-use Rattle.asm.specs.declared.Assembled.{Assembled}
 use Rattle.asm.proofs.passes.Source.assemble_with.Goals as goal
+
+pub returns-in_err-lines : goal.returns-in_err-lines
+unfolding assembled_with
+returns-in_err-lines c =
+    let p = err_from_is_err_and c.from_residual.result c.from_residual.ensures.1 in
+    rw (p.1, p.2, sym c.judge.ensures ∙ c.in_err-lines.was)
 
 pub returns : goal.returns
 unfolding assembled_with
 returns c =
-    let p = c.put_judged.ensures in
-    let j = c.judge-verdict.ensures in
-    let s = c.args.self.now in
-    ap₂ answered (p.value ∙ j) (p.image_after ∙ ap (λ (v : Assembled). image_after v (code_of (labels_in c.args.labels.now) (address_of s.start) (lines_of s.text.now)) s.start c.args.image.now) j)
+    rw (sym c.judge.ensures ∙ c.in_ok-lines.was)
+    (ap (λ (m : List ℕ). answered (Ok (c.in_ok-lines.lines, c.in_ok-lines.after)) m) (ap (λ (q : Page). q.text) c.put_code.ensures))
