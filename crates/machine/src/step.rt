@@ -60,7 +60,8 @@ pub fn entry_of(r: Reach, c: Control) -> Entry
     }
 }
 
-// The same entry made. A match on what is reached costs the loop less than one on the entry.
+// The same entry made. A match on what is reached costs the loop less than one on the entry. Here, in cost_by and in write_at each way has an arm of its
+// own: with alternatives in a pattern the images of bench/ take 100 to 131 instructions a step, in place of 84 to 106.
 fn enter_by(r: Reach, c: Control) -> Control
     ensures { result ≡ entered (entry_by r c) c }
 {
@@ -84,6 +85,7 @@ fn cost_by(r: Reach, c: Control) -> u8
     }
 }
 
+// The flags go over one by one: as a struct they are packed and unpacked, and the images of bench/ take 92 to 117 instructions a step, in place of 84 to 106.
 fn finish(c: Control, e: Effect, t: Taint, r: Reach) -> Done
     ensures { result ≡ done_of c e t r }
 {
