@@ -36,7 +36,6 @@ impl fmt::Display for Place {
 // What a field, a line or the input should be.
 fn wanted(reason: Reason) -> &'static str {
     match reason {
-        Reason::Nothing => "",
         Reason::First => "the first line is `mem`, a tab and memory's size",
         Reason::Word => "a line after the first is `at`, `mark` or `run`, a tab and its fields",
         Reason::AfterRun => "nothing stands after the `run` line",
@@ -54,10 +53,9 @@ fn wanted(reason: Reason) -> &'static str {
 
 // Nothing is said of a good input.
 pub fn explain(err: &impl Print, r: Reader) {
-    let fault = script::why(r);
-    if let Reason::Nothing = fault.reason {
+    let Some(fault) = script::why(r) else {
         return;
-    }
+    };
     let number = r.number;
     let place = Place(fault);
     let wanted = wanted(fault.reason);
