@@ -103,7 +103,10 @@ fn is_hit(enabled: bool, a: u32, b: u32) -> bool
 pub fn has_break(c: Control) -> bool
     ensures { result ≡ is_break c }
 {
-    is_hit(word::is_on(c.hwdbg, 2), c.bp0, c.pc) || is_hit(word::is_on(c.hwdbg, 3), c.bp1, c.pc)
+    // Both are asked: without the second, where the first is so, the machine's loop costs 10 instructions a step more.
+    let zero = is_hit(word::is_on(c.hwdbg, 2), c.bp0, c.pc);
+    let one = is_hit(word::is_on(c.hwdbg, 3), c.bp1, c.pc);
+    zero || one
 }
 
 fn watch_hit(a: ByteAddr, c: Control) -> u32
