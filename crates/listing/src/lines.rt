@@ -6,12 +6,13 @@ ghost use Rattle.isa.specs.Statements.{is_long};
 ghost use Rattle.listing.specs.Listing.{cut_by, shown_of, half_in, second_in, entry_at, tab, second_text, line_text};
 ghost use Rattle.listing.specs.Lent.{line_of};
 
-use crate::names::{Tables, place_of, put_name};
+use crate::names::{HALF_PLACE, Tables, place_of, put_name};
 use crate::rows::{put_row, row_of};
 use crate::{Entry, Line, Operand, Row, Shown};
 use isa::Decoded;
 use word::{ByteAddr, Width};
 
+#[tactic(auto, using(word::proofs::Memory::half_lt))]
 fn half_in(image: &[u8], at: ByteAddr) -> u16
     ensures { result ≡ half_in image.now at }
 {
@@ -36,12 +37,14 @@ fn second_in(image: &[u8], at: ByteAddr, first: u16) -> u16
     }
 }
 
+// With one arm `_ => d` for what isn't cut a line takes 25 instructions more.
 fn cut(end: usize, at: ByteAddr, d: Option<Decoded>) -> Option<Decoded>
     ensures { result ≡ cut_by end at d }
 {
     match d {
-        Some(Decoded::Long(_)) if end < at.0 as usize + 4 => None,
-        _ => d,
+        Some(Decoded::Short(i)) => Some(Decoded::Short(i)),
+        Some(Decoded::Long(i)) if at.0 as usize + 4 <= end => Some(Decoded::Long(i)),
+        _ => None,
     }
 }
 
@@ -60,15 +63,15 @@ fn shown(at: ByteAddr, first: u16, d: Option<Decoded>) -> Shown
             place: place_of(first),
             row: row_of(at, i),
         },
-        // `half` stands in the table's last place, which no instruction has.
         None => Shown {
             long: false,
-            place: 81,
+            place: HALF_PLACE,
             row: Row::One(Operand::Bits(first)),
         },
     }
 }
 
+#[tactic(auto, unfolding(crate::specs::Listing::entry_at))]
 pub fn entry_at(image: &[u8], at: ByteAddr, end: usize) -> Entry
     ensures { result ≡ entry_at image.now at end }
 {
@@ -114,6 +117,7 @@ fn put_head(out: &mut [u8], at: usize, tables: &Tables, a: u32, first: u16) -> u
 }
 
 // The second half, where there is one.
+#[tactic(auto, unfolding(text::specs::Pages::write_on))]
 fn put_second(out: &mut [u8], at: usize, long: bool, second: u16) -> usize
     ensures { page out.new result ≡ write_on (second_text long second) (page out.old at) }
 {
@@ -124,6 +128,7 @@ fn put_second(out: &mut [u8], at: usize, long: bool, second: u16) -> usize
     }
 }
 
+#[tactic(auto, using(crate::proofs::Laws::line_written))]
 pub fn put_entry(out: &mut [u8], at: usize, tables: &Tables, x: Entry) -> usize
     ensures { page out.new result ≡ write_on (line_text x) (page out.old at) }
 {

@@ -8,7 +8,11 @@ ghost use Rattle.listing.specs.Names.{names, place_of, name_at};
 const NAMES: [u8; 492] =
     *b"                                                                        lsli  lsri  asri  multi swint       mfsfr mtsfr                                                 jr    jrl   jsfr        sub   add   subc  addc  mov   and   or    xor   sxb   xhw   sxh   zxh   lsl   lsr   asr   mult  cmpeqicmpeq cmphs cmpls cmplt cmpgt cmplticmpgtimovf  subf  addif addf  movt  subt  addit addt  ldrpc andi  addi  movi  ldr   str   ldrh  strh  ldrb  strb  jf    sjf   jt    sjt   j     sj    jl    half  ";
 
+// `half` stands in the table's last place, which no instruction has.
+pub const HALF_PLACE: u32 = 81;
+
 // The place of a first half.
+#[tactic(auto, unfolding(crate::specs::Names::place_of))]
 pub fn place_of(first: u16) -> u32
     ensures { result ≡ place_of (first / 256) }
 {

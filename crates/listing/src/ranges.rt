@@ -31,6 +31,7 @@ fn is_out_of(length: usize, start: usize, end: usize) -> bool
 }
 
 // The lines of a range and their length. Kept lines stand one after the other, others each over the one before it.
+// How far the next line is, is known only once its instruction is read, so no range goes over the places.
 fn put_lines(out: &mut [u8], image: &[u8], start: u32, end: usize, keep: bool) -> usize
     requires { (start ≤ end) × (end ≤ 65536) × (cond keep (length (listing_of image.now start end)) 48 ≤ length out.old) }
     ensures value { result ≡ length (listing_of image.now start end) }
@@ -51,6 +52,7 @@ fn put_lines(out: &mut [u8], image: &[u8], start: u32, end: usize, keep: bool) -
 }
 
 // A buffer of 24 bytes for each byte of the range has room for every listing. Where it is shorter, the length is found first.
+#[tactic(auto, using(crate::proofs::Lent::roomy))]
 fn is_short(room: usize, image: &[u8], start: usize, end: usize) -> bool
     requires { Good (length image.now) start end }
     ensures { result ≡ ltb room (length (listing_of image.now start end)) }
@@ -62,6 +64,7 @@ fn is_short(room: usize, image: &[u8], start: usize, end: usize) -> bool
     room < put_lines(&mut line, image, start as u32, end, false)
 }
 
+#[tactic(auto, using(crate::proofs::Lent::lent_out, crate::proofs::Lent::lent_short, crate::proofs::Lent::lent_done), unfolding(crate::specs::Lent::listed_of))]
 pub fn list(image: &[u8], start: usize, end: usize, out: &mut [u8]) -> Result<usize, Refusal>
     ensures { answered result out.new ≡ listed_of image.now start end out.old }
 {

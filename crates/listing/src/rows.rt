@@ -45,6 +45,7 @@ pub fn row_of(at: ByteAddr, i: Instr) -> Row
 }
 
 // The sixteen registers are most of what is written.
+#[tactic(auto, using(crate::proofs::Laws::register_one, crate::proofs::Laws::register_two), unfolding(crate::specs::Listing::operand_text, text::specs::Pages::write_on))]
 fn put_register(out: &mut [u8], at: usize, n: u32) -> usize
     ensures { page out.new result ≡ write_on (operand_text (Operand.Reg n)) (page out.old at) }
 {
@@ -58,6 +59,7 @@ fn put_register(out: &mut [u8], at: usize, n: u32) -> usize
     text::put_number(out, a, n as u64)
 }
 
+#[tactic(auto, unfolding(crate::specs::Listing::operand_text, text::specs::Pages::write_on))]
 fn put_operand(out: &mut [u8], at: usize, x: Operand) -> usize
     ensures { page out.new result ≡ write_on (operand_text x) (page out.old at) }
 {
@@ -78,6 +80,7 @@ fn put_operand(out: &mut [u8], at: usize, x: Operand) -> usize
     }
 }
 
+#[tactic(auto, using(text::proofs::Pages::write_append, text::proofs::Pages::write_three), unfolding(crate::specs::Listing::row_text))]
 pub fn put_row(out: &mut [u8], at: usize, r: Row) -> usize
     ensures { page out.new result ≡ write_on (row_text r) (page out.old at) }
 {
