@@ -1,6 +1,6 @@
 -- One instruction with marks: where it reaches, and "operand marked, data outside", or all that it does (document 01, "Replies of a run").
 -- Assumes nothing.
-use Rattle.std.specs.Prelude.{ℕ, Bool, false, cond, not, List, Err, Ok, Result}
+use Rattle.std.specs.Prelude.{ℕ, Bool, false, cond, not, List}
 use Rattle.word.specs.Bytes.{bytes_of, inside, load_of}
 use Rattle.word.specs.declared.Width.{Width}
 use Rattle.isa.specs.declared.Instr.{Instr}
@@ -12,8 +12,7 @@ use Rattle.marks.specs.Memory.{Marks, marked_at}
 use Rattle.marks.specs.declared.Flags.{Flags}
 use Rattle.instruction.specs.declared.Halt.{Halt}
 use Rattle.instruction.specs.declared.Reach.{Reach}
-use Rattle.cpu.specs.declared.Effect.{Effect}
-use Rattle.marks.specs.declared.Taint.{Taint}
+use Rattle.instruction.specs.declared.Act.{Act}
 
 -- a register's value and mark
 pub record Val : Type 0 where
@@ -61,8 +60,10 @@ loaded_mark (Reach.Writes w a) k = false
 loaded_mark (Reach.Raises n) k = false
 
 -- what it does, x and y its operands; y is the base, the target or the source whose mark the rules test
-unfoldable pub act_of : Instr → Val → Val → Flags → Control → List ℕ → Marks → Result (Effect × Taint × Reach) Halt
+unfoldable pub act_of : Instr → Val → Val → Flags → Control → List ℕ → Marks → Act
 act_of i x y f c m k =
-    cond (blocked i y.mark f) (Err Halt.MarkedOperand)
-    (cond (outside (reach_of i y.value c) m) (Err Halt.DataOutside)
-    (Ok (exec i x.value y.value (loaded_from (reach_of i y.value c) m) c, taint i x.mark y.mark (loaded_mark (reach_of i y.value c) k) (tf c) f, reach_of i y.value c)))
+    cond (blocked i y.mark f) (Act.Halted Halt.MarkedOperand)
+    (cond (outside (reach_of i y.value c) m) (Act.Halted Halt.DataOutside)
+    (Act.Does (exec i x.value y.value (loaded_from (reach_of i y.value c) m) c)
+    (taint i x.mark y.mark (loaded_mark (reach_of i y.value c) k) (tf c) f)
+    (reach_of i y.value c)))

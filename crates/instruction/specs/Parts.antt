@@ -19,6 +19,7 @@ use Rattle.instruction.specs.Fetch.{half_at, after_half}
 use Rattle.instruction.specs.Act.{Val}
 use Rattle.instruction.specs.declared.Halt.{Halt}
 use Rattle.instruction.specs.declared.Reach.{Reach}
+use Rattle.instruction.specs.declared.Act.{Act}
 use Rattle.cpu.specs.declared.Effect.{Effect}
 use Rattle.marks.specs.declared.Taint.{Taint}
 
@@ -86,12 +87,12 @@ by_first (Ok h) a m k = rest_by (kind_of (h / 256)) h a m k
 
 -- ---- a load of register d and a store, at an address
 
-abbrev pub load_act : Width → ByteAddr → ℕ → Flags → Control → List ℕ → Marks → Result (Effect × Taint × Reach) Halt
+abbrev pub load_act : Width → ByteAddr → ℕ → Flags → Control → List ℕ → Marks → Act
 load_act w a d f c m k =
-    cond (not (inside m a (bytes_of w))) (Err Halt.DataOutside)
-    (Ok (exec (Instr.Ldrpc d 0) 0 0 (load_of w m a) c, with (marked_at w k a) f, Reach.Reads w a))
+    cond (not (inside m a (bytes_of w))) (Act.Halted Halt.DataOutside)
+    (Act.Does (exec (Instr.Ldrpc d 0) 0 0 (load_of w m a) c) (with (marked_at w k a) f) (Reach.Reads w a))
 
-abbrev pub store_act : Width → ByteAddr → Flags → Control → List ℕ → Result (Effect × Taint × Reach) Halt
+abbrev pub store_act : Width → ByteAddr → Flags → Control → List ℕ → Act
 store_act w a f c m =
-    cond (not (inside m a (bytes_of w))) (Err Halt.DataOutside)
-    (Ok (exec (Instr.Store Width.Byte 0 0 0) 0 0 0 c, with false f, Reach.Writes w a))
+    cond (not (inside m a (bytes_of w))) (Act.Halted Halt.DataOutside)
+    (Act.Does (exec (Instr.Store Width.Byte 0 0 0) 0 0 0 c) (with false f) (Reach.Writes w a))

@@ -13,6 +13,7 @@ ghost use Rattle.instruction.specs.Act.{act_of};
 ghost use Rattle.instruction.specs.Parts.{val, flags, load_act, store_act};
 ghost use Rattle.instruction.specs.declared.Halt.{Halt};
 ghost use Rattle.instruction.specs.declared.Reach.{Reach};
+ghost use Rattle.instruction.specs.declared.Act.{Act};
 
 use crate::{Act, Halt, Reach};
 use cpu::{Control, Effect};
@@ -21,15 +22,19 @@ use marks::Taint;
 use word::{ByteAddr, HalfDisp, Width};
 
 fn stop_if(t: bool, a: Act) -> Act
-    ensures { result ≡ cond t (Err Halt.MarkedOperand) a }
+    ensures { result ≡ cond t (Act.Halted Halt.MarkedOperand) a }
 {
-    if t { Err(Halt::MarkedOperand) } else { a }
+    if t {
+        Act::Halted(Halt::MarkedOperand)
+    } else {
+        a
+    }
 }
 
 fn does(e: Effect, t: Taint) -> Act
-    ensures { result ≡ Ok (e, t, Reach.Nowhere) }
+    ensures { result ≡ Act.Does e t Reach.Nowhere }
 {
-    Ok((e, t, Reach::Nowhere))
+    Act::Does(e, t, Reach::Nowhere)
 }
 
 fn keep(tf: bool, cy: bool) -> Taint
@@ -40,9 +45,9 @@ fn keep(tf: bool, cy: bool) -> Taint
 
 // "operand marked, data outside": a marked base is told before its address.
 fn halt_outside(marked: bool) -> Act
-    ensures { result ≡ cond marked (Err Halt.MarkedOperand) (Err Halt.DataOutside) }
+    ensures { result ≡ cond marked (Act.Halted Halt.MarkedOperand) (Act.Halted Halt.DataOutside) }
 {
-    stop_if(marked, Err(Halt::DataOutside))
+    stop_if(marked, Act::Halted(Halt::DataOutside))
 }
 
 fn load_on(
@@ -57,24 +62,24 @@ fn load_on(
     m: &[u8],
     mk: &[u8],
 ) -> Act
-    ensures { result ≡ cond marked (Err Halt.MarkedOperand) (load_act w (data_address w base n) d (flags tf cy) c m.now (bits mk.now)) }
+    ensures { result ≡ cond marked (Act.Halted Halt.MarkedOperand) (load_act w (data_address w base n) d (flags tf cy) c m.now (bits mk.now)) }
 {
     let at = cpu::data_address(w, base, n);
     if word::is_inside(w, m, at) {
         let e = cpu::loaded(d, word::load(w, m, at), c);
         let t = marks::mark_reg(marks::memory::is_marked(w, mk, at), tf, cy);
-        return stop_if(marked, Ok((e, t, Reach::Reads(w, at))));
+        return stop_if(marked, Act::Does(e, t, Reach::Reads(w, at)));
     }
     halt_outside(marked)
 }
 
 fn store_at(marked: bool, w: Width, at: ByteAddr, tf: bool, cy: bool, c: Control, m: &[u8]) -> Act
-    ensures { result ≡ cond marked (Err Halt.MarkedOperand) (store_act w at (flags tf cy) c m.now) }
+    ensures { result ≡ cond marked (Act.Halted Halt.MarkedOperand) (store_act w at (flags tf cy) c m.now) }
 {
     if word::is_inside(w, m, at) {
         return stop_if(
             marked,
-            Ok((cpu::stored(c), keep(tf, cy), Reach::Writes(w, at))),
+            Act::Does(cpu::stored(c), keep(tf, cy), Reach::Writes(w, at)),
         );
     }
     halt_outside(marked)
@@ -91,7 +96,7 @@ fn alu_on(
     cy: bool,
     c: Control,
 ) -> Act
-    ensures { result ≡ cond (alu_blocked op mv) (Err Halt.MarkedOperand) (Ok (exec (Instr.Alu op d 0) u v 0 c, taint (Instr.Alu op 0 0) mu mv false false (flags tf cy), Reach.Nowhere)) }
+    ensures { result ≡ cond (alu_blocked op mv) (Act.Halted Halt.MarkedOperand) (Act.Does (exec (Instr.Alu op d 0) u v 0 c) (taint (Instr.Alu op 0 0) mu mv false false (flags tf cy)) Reach.Nowhere) }
 {
     let e = cpu::alu(op, d, u, v, c);
     stop_if(
@@ -101,21 +106,21 @@ fn alu_on(
 }
 
 fn short_on(op: ShortOp, d: HalfDisp, tf: bool, cy: bool, c: Control) -> Act
-    ensures { result ≡ cond (short_blocked op (flags tf cy)) (Err Halt.MarkedOperand) (Ok (exec (Instr.ShortJump op d) 0 0 0 c, with false (flags tf cy), Reach.Nowhere)) }
+    ensures { result ≡ cond (short_blocked op (flags tf cy)) (Act.Halted Halt.MarkedOperand) (Act.Does (exec (Instr.ShortJump op d) 0 0 0 c) (with false (flags tf cy)) Reach.Nowhere) }
 {
     let e = cpu::short_jump(op, d, c);
     stop_if(marks::is_short_blocked(op, tf, cy), does(e, keep(tf, cy)))
 }
 
 fn long_on(op: LongOp, d: HalfDisp, tf: bool, cy: bool, c: Control) -> Act
-    ensures { result ≡ cond (long_blocked op (flags tf cy)) (Err Halt.MarkedOperand) (Ok (exec (Instr.LongJump op d) 0 0 0 c, with false (flags tf cy), Reach.Nowhere)) }
+    ensures { result ≡ cond (long_blocked op (flags tf cy)) (Act.Halted Halt.MarkedOperand) (Act.Does (exec (Instr.LongJump op d) 0 0 0 c) (with false (flags tf cy)) Reach.Nowhere) }
 {
     let e = cpu::long_jump(op, d, c);
     stop_if(marks::is_long_blocked(op, tf, cy), does(e, keep(tf, cy)))
 }
 
 fn compare_on(op: CmpOp, u: u32, mu: bool, v: u32, mv: bool, tf: bool, cy: bool, c: Control) -> Act
-    ensures { result ≡ Ok (exec (Instr.Cmp op 0 0) u v 0 c, with false (flags (mu || mv) cy), Reach.Nowhere) }
+    ensures { result ≡ Act.Does (exec (Instr.Cmp op 0 0) u v 0 c) (with false (flags (mu || mv) cy)) Reach.Nowhere }
 {
     let e = cpu::compare(op, u, v, c);
     does(e, marks::mark_tf(mu || mv, tf, cy))
@@ -133,7 +138,7 @@ fn conditional_on(
     cy: bool,
     c: Control,
 ) -> Act
-    ensures { result ≡ Ok (exec (Instr.Cond op t d 0) u v 0 c, taint (Instr.Cond op t 0 0) mu mv false (on c.psw 8) (flags tf cy), Reach.Nowhere) }
+    ensures { result ≡ Act.Does (exec (Instr.Cond op t d 0) u v 0 c) (taint (Instr.Cond op t 0 0) mu mv false (on c.psw 8) (flags tf cy)) Reach.Nowhere }
 {
     let wanted = cpu::is_wanted(t, c);
     let e = cpu::conditional(op, wanted, d, u, v, c);
@@ -181,7 +186,7 @@ pub fn act_on(
         Instr::Mtsfr(n, _) => {
             // Tested first, unlike in stop_if: else the compiler carries all special function registers over the test.
             if mv {
-                Err(Halt::MarkedOperand)
+                Act::Halted(Halt::MarkedOperand)
             } else {
                 does(cpu::mtsfr(n, v, c), marks::mark_mtsfr(n, tf, cy))
             }
@@ -192,7 +197,7 @@ pub fn act_on(
             marks::is_sfr_marked(n, tf, cy),
             does(cpu::jsfr(n, c), keep(tf, cy)),
         ),
-        Instr::Swint(n) => Ok((cpu::swint(n, c), keep(tf, cy), Reach::Raises(n))),
+        Instr::Swint(n) => Act::Does(cpu::swint(n, c), keep(tf, cy), Reach::Raises(n)),
         Instr::ShortJump(op, d) => short_on(op, d, tf, cy, c),
         Instr::LongJump(op, d) => long_on(op, d, tf, cy, c),
     }

@@ -52,5 +52,9 @@ pub fn number(r: Reply) -> u32
     r as u32
 }
 
-// One instruction: its effect, its marks and the place that it reaches, or why it is not done.
-pub type Act = Result<(Effect, Taint, Reach), Halt>;
+// One instruction: it is not done, or has an effect, marks, and a place that it reaches.
+#[derive(Clone, Copy)]
+pub enum Act {
+    Halted(Halt),
+    Does(Effect, Taint, Reach),
+}

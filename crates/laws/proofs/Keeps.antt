@@ -34,6 +34,7 @@ use Rattle.instruction.specs.Fetch.{fetch_of}
 use Rattle.instruction.specs.Act.{Val, reach_of, outside, loaded_from, loaded_mark, act_of}
 use Rattle.instruction.specs.declared.Halt.{Halt}
 use Rattle.instruction.specs.declared.Reach.{Reach}
+use Rattle.instruction.specs.declared.Act.{Act}
 use Rattle.machine.specs.State.{value_at}
 use Rattle.machine.specs.Step.{Stepped, stopped, completed, chosen, entry_by, entry_done, done_of, halt_step, act_step, instr_step, fetch_step, event_step, step_of, after}
 use Rattle.machine.specs.Run.{run_of}
@@ -284,7 +285,7 @@ halt_keeps Halt.MarkedOperand a f c m k g = tt
 halt_keeps Halt.DataOutside a f c m k g = enters_kept Entry.DataError f (onward 2 c) (onwards c g 2 refl)
 
 acted : (t u : Bool) (p q : Halt) (e : Effect) (n : Taint) (r : Reach) (a : Option ByteAddr) (x : Val) (f : Flags) (c : Control) (m : List ℕ) (k : Marks) → Form c → Form e.control
-    → Kept (act_step (cond t (Err p) (cond u (Err q) (Ok (e, n, r)))) a x f c m k)
+    → Kept (act_step (cond t (Act.Halted p) (cond u (Act.Halted q) (Act.Does e n r))) a x f c m k)
 unfolding done_of
 acted true u p q e n r a x f c m k i g = halt_keeps p a f c m k i
 acted false true p q e n r a x f c m k i g = halt_keeps q a f c m k i

@@ -16,18 +16,16 @@ use Rattle.instruction.specs.Reply.{number_of}
 use Rattle.instruction.specs.Fetch.{fetch_of}
 use Rattle.instruction.specs.Act.{Val, reach_of, act_of}
 use Rattle.instruction.specs.declared.Halt.{Halt}
+use Rattle.instruction.specs.declared.Act.{Act}
 use Rattle.machine.specs.State.{value_at, out_of_form}
 use Rattle.machine.specs.Step.{Stepped, stopped, completed, chosen, data_of, halt_step, act_step, instr_step, fetch_step, event_step, step_of, after}
 use Rattle.machine.specs.Run.{Final, bad_length, judge, go_on, steps_of, judged, run_of}
 use Rattle.machine.specs.declared.State.{State}
 use Rattle.machine.specs.declared.Event.{Event}
 use Rattle.laws.specs.Replies.{Stops, fetch_marked, no_instruction, marked_operand, Replies, refused, used_up, stops}
+use Rattle.word.specs.declared.ByteAddr.{ByteAddr}
 use Rattle.instruction.specs.declared.Reply.{Reply}
 use Rattle.isa.specs.declared.Instr.{Instr}
-use Rattle.word.specs.declared.ByteAddr.{ByteAddr}
-use Rattle.cpu.specs.declared.Effect.{Effect}
-use Rattle.marks.specs.declared.Taint.{Taint}
-use Rattle.instruction.specs.declared.Reach.{Reach}
 
 abbrev pub StepStops : Stepped → Type 0
 StepStops (stopped r) = Stops (number_of r)
@@ -40,9 +38,9 @@ halt_stops Halt.NoInstruction a f c m k = no_instruction
 halt_stops Halt.MarkedOperand a f c m k = marked_operand
 halt_stops Halt.DataOutside a f c m k = tt
 
-act_stops : (q : Result (Effect × Taint × Reach) Halt) (a : Option ByteAddr) (x : Val) (f : Flags) (c : Control) (m : List ℕ) (k : Marks) → StepStops (act_step q a x f c m k)
-act_stops (Err h) a x f c m k = halt_stops h a f c m k
-act_stops (Ok (e, t, r)) a x f c m k = tt
+act_stops : (q : Act) (a : Option ByteAddr) (x : Val) (f : Flags) (c : Control) (m : List ℕ) (k : Marks) → StepStops (act_step q a x f c m k)
+act_stops (Act.Halted h) a x f c m k = halt_stops h a f c m k
+act_stops (Act.Does e t r) a x f c m k = tt
 
 fetched_stops : (x : Result Instr Halt) (s : State) (m : List ℕ) (k : Marks) → StepStops (fetch_step x s m k)
 unfolding instr_step

@@ -32,6 +32,7 @@ use Rattle.instruction.specs.Act.{Val, outside, loaded_mark, act_of}
 use Rattle.instruction.specs.Statements.{decoded_at}
 use Rattle.instruction.specs.declared.Halt.{Halt}
 use Rattle.instruction.specs.declared.Reach.{Reach}
+use Rattle.instruction.specs.declared.Act.{Act}
 use Rattle.machine.specs.State.{value_at}
 use Rattle.machine.specs.Step.{Stepped, stopped, completed, chosen, stored_to, data_of, entry_done, done_of, line_of, act_step, instr_step, fetch_step, event_step, step_of, after}
 use Rattle.machine.specs.Run.{Final, go_on, steps_of, judge, judged, run_of}
@@ -106,7 +107,7 @@ module _ (t : ℕ) (s : State) (m : List ℕ) (k : Marks) where
 
   module _ (i : Instr) (c : chosen t s.control ≡ Event.Instruction) (f : fetch_of (pc_of s.control) m k ≡ Ok i) where
     acted : (b u : Bool) (n : Taint) → outside (reach_in i s) m ≡ u
-        → Told (act_step (cond b (Err Halt.MarkedOperand) (cond u (Err Halt.DataOutside) (Ok (effect_in i s m, n, reach_in i s)))) (data_of (reach_in i s)) (value_at s (sources_of i).first) s.flags s.control m k)
+        → Told (act_step (cond b (Act.Halted Halt.MarkedOperand) (cond u (Act.Halted Halt.DataOutside) (Act.Does (effect_in i s m) n (reach_in i s)))) (data_of (reach_in i s)) (value_at s (sources_of i).first) s.flags s.control m k)
     unfolding done_of line_of entry_done onward with_pc entry_cost
     acted true u n o = tt
     acted false true n o = (refl, by_data i c f o refl refl refl, nothing_stored (data_of (reach_in i s)))

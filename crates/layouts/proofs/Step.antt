@@ -27,6 +27,7 @@ use Rattle.instruction.specs.Statements.{decoded_at}
 use Rattle.instruction.specs.declared.Reply.{Reply}
 use Rattle.instruction.specs.declared.Halt.{Halt}
 use Rattle.instruction.specs.declared.Reach.{Reach}
+use Rattle.instruction.specs.declared.Act.{Act}
 use Rattle.machine.specs.State.{value_at}
 use Rattle.machine.specs.Step.{chosen, stored_to, marked_to, data_of, halt_step, act_step, instr_step, fetch_step, event_step, step_of}
 use Rattle.machine.specs.declared.State.{State}
@@ -81,8 +82,8 @@ module _ (m : List ℕ) {k j : Marks} (s : SameMarks (length m) k j) where
   halt_same Halt.DataOutside a f c = goes _ m _ s
 
   act_same : (t u : Bool) (e : Effect) (n : Bool → Taint) (r : Reach) (a : Option ByteAddr) (x : Val) (f : Flags) (c : Control) → outside r m ≡ u
-      → SameStep (act_step (cond t (Err Halt.MarkedOperand) (cond u (Err Halt.DataOutside) (Ok (e, n (loaded_mark r k), r)))) a x f c m k)
-      (act_step (cond t (Err Halt.MarkedOperand) (cond u (Err Halt.DataOutside) (Ok (e, n (loaded_mark r j), r)))) a x f c m j)
+      → SameStep (act_step (cond t (Act.Halted Halt.MarkedOperand) (cond u (Act.Halted Halt.DataOutside) (Act.Does e (n (loaded_mark r k)) r))) a x f c m k)
+      (act_step (cond t (Act.Halted Halt.MarkedOperand) (cond u (Act.Halted Halt.DataOutside) (Act.Does e (n (loaded_mark r j)) r))) a x f c m j)
   act_same true u e n r a x f c h = stops Reply.MarkedOperand
   act_same false true e n r a x f c h = halt_same Halt.DataOutside a f c
   act_same false false e n r a x f c h = rw (loaded_same r h) (goes _ (stored_to r x.value m) _ (stored_same r x.value x.mark h))

@@ -29,6 +29,7 @@ use Rattle.instruction.specs.Act.{Val}
 use Rattle.instruction.specs.Parts.{first_half, second_half, by_second, rest_by, by_first}
 use Rattle.instruction.specs.declared.Reply.{Reply}
 use Rattle.instruction.specs.declared.Halt.{Halt}
+use Rattle.instruction.specs.declared.Act.{Act}
 use Rattle.instruction.proofs.Laws.{fetch_by_parts}
 use Rattle.machine.proofs.Served.{Served, served_by}
 use Rattle.machine.specs.State.{value_at, out_of_form}
@@ -170,15 +171,15 @@ halt_enters Halt.DataOutside a f c m k n e =
     let q : passed (on c.psw 4) (entry_cost Entry.DataError) (entered Entry.DataError (onward 2 c)) ≡ n = cc in (ap (λ (u : Control). goes (entered_to u f)) q, refl, refl)
 
 -- an instruction by what it answers
-act_halts : (q : Result (Effect × Taint × Reach) Halt) (a : Option ByteAddr) (x : Val) (f : Flags) (c : Control) (m : List ℕ) (k : Marks) (h : Halt) → Err h ≡ act_out q c
+act_halts : (q : Act) (a : Option ByteAddr) (x : Val) (f : Flags) (c : Control) (m : List ℕ) (k : Marks) (h : Halt) → Err h ≡ act_out q c
     → (act_step q a x f c m k ≡ halt_step h a f c m k) × (act_mem q x m ≡ m) × (act_marks q x k ≡ k)
-act_halts (Err j) a x f c m k h e = let q : j ≡ h = cc in (ap (λ (i : Halt). halt_step i a f c m k) q, refl, refl)
-act_halts (Ok (u, t, r)) a x f c m k h e = let z : ◌≡◌ {A = ℕ} 0 1 = cc in absurd (omega arith)
+act_halts (Act.Halted j) a x f c m k h e = let q : j ≡ h = cc in (ap (λ (i : Halt). halt_step i a f c m k) q, refl, refl)
+act_halts (Act.Does u t r) a x f c m k h e = let z : ◌≡◌ {A = ℕ} 0 1 = cc in absurd (omega arith)
 
-act_goes : (q : Result (Effect × Taint × Reach) Halt) (a : Option ByteAddr) (x : Val) (f : Flags) (c : Control) (m : List ℕ) (k : Marks) (d : Done) → Ok d ≡ act_out q c
+act_goes : (q : Act) (a : Option ByteAddr) (x : Val) (f : Flags) (c : Control) (m : List ℕ) (k : Marks) (d : Done) → Ok d ≡ act_out q c
     → (out_in (act_step q a x f c m k) ≡ goes d) × (mem_in m (act_step q a x f c m k) ≡ act_mem q x m) × (marks_in k (act_step q a x f c m k) ≡ act_marks q x k)
-act_goes (Err j) a x f c m k d e = let z : ◌≡◌ {A = ℕ} 0 1 = cc in absurd (omega arith)
-act_goes (Ok (u, t, r)) a x f c m k d e = let q : done_of c u t r ≡ d = cc in (ap goes q, refl, refl)
+act_goes (Act.Halted j) a x f c m k d e = let z : ◌≡◌ {A = ℕ} 0 1 = cc in absurd (omega arith)
+act_goes (Act.Does u t r) a x f c m k d e = let q : done_of c u t r ≡ d = cc in (ap goes q, refl, refl)
 
 -- the same of a state in its parts, as the loop has them, by the step's start g and the byte of it that names registers
 module _ (b n : ℕ) (t : List ℕ) (regs : List ℕ) (marks : List Bool) (f : Flags) (c : Control) (m : List ℕ) (k : Marks) (l : n < b) (g : Begun)

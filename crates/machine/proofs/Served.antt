@@ -21,6 +21,7 @@ use Rattle.marks.specs.declared.Taint.{Taint}
 use Rattle.instruction.specs.Act.{Val, reach_of, outside, loaded_from, loaded_mark, act_of}
 use Rattle.instruction.specs.Parts.{decoded_to}
 use Rattle.instruction.specs.declared.Halt.{Halt}
+use Rattle.instruction.specs.declared.Act.{Act}
 use Rattle.instruction.specs.declared.Reach.{Reach}
 use Rattle.machine.specs.State.{value_at}
 use Rattle.machine.specs.Step.{completed, stored_to, marked_to, data_of, done_of, line_of, act_step, instr_step, fetch_step}
@@ -33,8 +34,8 @@ abbrev Alike : Reach → Val → Val → List ℕ → Marks → Type 0
 Alike r x y m k = (stored_to r x.value m ≡ stored_to r y.value m) × (marked_to r x.mark k ≡ marked_to r y.mark k)
 
 unstored : (t u : Bool) (e : Effect) (n : Taint) (r : Reach) (a : Option ByteAddr) (x y : Val) (f : Flags) (c : Control) (m : List ℕ) (k : Marks) → Alike r x y m k
-    → act_step (cond t (Err Halt.MarkedOperand) (cond u (Err Halt.DataOutside) (Ok (e, n, r)))) a x f c m k
-    ≡ act_step (cond t (Err Halt.MarkedOperand) (cond u (Err Halt.DataOutside) (Ok (e, n, r)))) a y f c m k
+    → act_step (cond t (Act.Halted Halt.MarkedOperand) (cond u (Act.Halted Halt.DataOutside) (Act.Does e n r))) a x f c m k
+    ≡ act_step (cond t (Act.Halted Halt.MarkedOperand) (cond u (Act.Halted Halt.DataOutside) (Act.Does e n r))) a y f c m k
 unstored true u e n r a x y f c m k h = refl
 unstored false true e n r a x y f c m k h = refl
 unstored false false e n r a x y f c m k h = ap₂ (λ (a : List ℕ) (b : Marks). completed (done_of c e n r) a b (line_of c e r)) h.0 h.1
@@ -68,7 +69,7 @@ module _ (s : State) (m : List ℕ) (k : Marks) where
   unfolding instr_step
   serves i h e d a =
       act_unstored i (value_at s (sources_of i).first) (value_at s (sources_of i).second) _ (value_at s (sources_of i).first) (value_at s (nib_c h)) s.flags s.control m k a
-      ∙ ap₂ (λ (x : Result (Effect × Taint × Reach) Halt) (y : Option ByteAddr). act_step x y (value_at s (nib_c h)) s.flags s.control m k) e d
+      ∙ ap₂ (λ (x : Act) (y : Option ByteAddr). act_step x y (value_at s (nib_c h)) s.flags s.control m k) e d
 
   pub served_by : (d : Kind) (h b : ℕ) → Served (decoded_to (operands_of d h b)) h
   unfolding operands_of sources_of act_of blocked reach_of exec makes cost_of taint

@@ -15,6 +15,7 @@ use Rattle.instruction.specs.Act.{Val, reach_of, act_of}
 use Rattle.instruction.specs.Parts.{first_half, rest_by}
 use Rattle.instruction.specs.declared.Reply.{Reply}
 use Rattle.instruction.specs.declared.Halt.{Halt}
+use Rattle.instruction.specs.declared.Act.{Act}
 use Rattle.machine.specs.Step.{Stepped, stopped, completed, chosen, stored_to, marked_to, data_of, done_of, act_step}
 use Rattle.machine.specs.declared.State.{State}
 use Rattle.machine.specs.declared.Event.{Event}
@@ -73,21 +74,21 @@ unfoldable pub begun_of : ℕ → Control → List ℕ → Marks → Begun
 begun_of t c m k = begun_by (chosen t c) c m k
 
 -- what an instruction answers, and what it makes of memory and marks; x is what it may store
-abbrev pub act_out : Result (Effect × Taint × Reach) Halt → Control → Result Done Halt
-act_out (Err h) c = Err h
-act_out (Ok (e, t, r)) c = Ok (done_of c e t r)
+abbrev pub act_out : Act → Control → Result Done Halt
+act_out (Act.Halted h) c = Err h
+act_out (Act.Does e t r) c = Ok (done_of c e t r)
 
-abbrev pub act_mem : Result (Effect × Taint × Reach) Halt → Val → List ℕ → List ℕ
-act_mem (Err h) x m = m
-act_mem (Ok (e, t, r)) x m = stored_to r x.value m
+abbrev pub act_mem : Act → Val → List ℕ → List ℕ
+act_mem (Act.Halted h) x m = m
+act_mem (Act.Does e t r) x m = stored_to r x.value m
 
-abbrev pub act_marks : Result (Effect × Taint × Reach) Halt → Val → Marks → Marks
-act_marks (Err h) x k = k
-act_marks (Ok (e, t, r)) x k = marked_to r x.mark k
+abbrev pub act_marks : Act → Val → Marks → Marks
+act_marks (Act.Halted h) x k = k
+act_marks (Act.Does e t r) x k = marked_to r x.mark k
 
 -- what is fetched, done, and the data address that it reaches
-abbrev pub fetched_act : Result Instr Halt → Val → Val → Flags → Control → List ℕ → Marks → Result (Effect × Taint × Reach) Halt
-fetched_act (Err h) x y f c m k = Err h
+abbrev pub fetched_act : Result Instr Halt → Val → Val → Flags → Control → List ℕ → Marks → Act
+fetched_act (Err h) x y f c m k = Act.Halted h
 fetched_act (Ok i) x y f c m k = act_of i x y f c m k
 
 abbrev pub fetched_data : Result Instr Halt → Val → Control → Option ByteAddr
@@ -98,7 +99,7 @@ fetched_data (Ok i) y c = data_of (reach_of i y.value c)
 abbrev pub half_fetched : ℕ → ℕ → Control → List ℕ → Marks → Result Instr Halt
 half_fetched hi lo c m k = rest_by (kind_of hi) (hi * 256 + lo) (pc_of c) m k
 
-unfoldable pub half_act : ℕ → ℕ → Val → Val → Flags → Control → List ℕ → Marks → Result (Effect × Taint × Reach) Halt
+unfoldable pub half_act : ℕ → ℕ → Val → Val → Flags → Control → List ℕ → Marks → Act
 half_act hi lo x y f c m k = fetched_act (half_fetched hi lo c m k) x y f c m k
 
 unfoldable pub half_step : ℕ → ℕ → Val → Val → Flags → Control → List ℕ → Marks → Stepped

@@ -18,6 +18,7 @@ use Rattle.instruction.specs.Fetch.{fetch_of}
 use Rattle.instruction.specs.Act.{Val, reach_of, act_of}
 use Rattle.instruction.specs.declared.Reply.{Reply}
 use Rattle.instruction.specs.declared.Halt.{Halt}
+use Rattle.instruction.specs.declared.Act.{Act}
 use Rattle.instruction.specs.declared.Reach.{Reach}
 use Rattle.machine.specs.State.{value_at}
 use Rattle.machine.specs.declared.State.{State}
@@ -122,9 +123,9 @@ unfoldable pub line_of : Control → Effect → Reach → Line
 line_of c e r = record { pc = pc_of c; entry = entry_by r e.control; address = data_of r }
 
 -- a is the data address, x what it may store
-abbrev pub act_step : Result (Effect × Taint × Reach) Halt → Option ByteAddr → Val → Flags → Control → List ℕ → Marks → Stepped
-act_step (Err h) a x f c m k = halt_step h a f c m k
-act_step (Ok (e, t, r)) a x f c m k = completed (done_of c e t r) (stored_to r x.value m) (marked_to r x.mark k) (line_of c e r)
+abbrev pub act_step : Act → Option ByteAddr → Val → Flags → Control → List ℕ → Marks → Stepped
+act_step (Act.Halted h) a x f c m k = halt_step h a f c m k
+act_step (Act.Does e t r) a x f c m k = completed (done_of c e t r) (stored_to r x.value m) (marked_to r x.mark k) (line_of c e r)
 
 -- ---- the step
 

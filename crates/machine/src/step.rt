@@ -125,8 +125,8 @@ fn act_step(a: Act, u: u32, mu: bool, c: Control, m: &mut [u8], mk: &mut [u8]) -
     ensures mk_after { bits mk.new ≡ act_marks a (val u mu) (bits mk.old) }
 {
     match a {
-        Err(h) => Err(h),
-        Ok((e, t, r)) => {
+        Act::Halted(h) => Err(h),
+        Act::Does(e, t, r) => {
             write_at(r, u, mu, m, mk);
             Ok(finish(c, e, t, r))
         }

@@ -28,6 +28,7 @@ use Rattle.instruction.specs.Statements.{decoded_at}
 use Rattle.instruction.specs.declared.Reply.{Reply}
 use Rattle.instruction.specs.declared.Halt.{Halt}
 use Rattle.instruction.specs.declared.Reach.{Reach}
+use Rattle.instruction.specs.declared.Act.{Act}
 use Rattle.machine.specs.State.{value_at}
 use Rattle.machine.specs.Step.{Stepped, stopped as halted, completed as made, chosen, stored_to, entry_done, done_of, halt_step, act_step, instr_step, fetch_step, event_step, step_of, after}
 use Rattle.machine.specs.Run.{Final, judge, go_on, steps_of, judged, run_of}
@@ -87,7 +88,7 @@ module _ (k : Marks) (z : (i : ℕ) → mark_at k i ≡ false) where
 
   does_same : (s : Core) (m : List ℕ) (u : Bool) (a : Option ByteAddr) (v : ℕ) (e : Effect) (r : Reach)
       → Agree s k
-      (act_step (cond u (Err Halt.DataOutside) (Ok (e, with false none, r))) a (record { value = v; mark = false }) none s.control m k)
+      (act_step (cond u (Act.Halted Halt.DataOutside) (Act.Does e (with false none) r)) a (record { value = v; mark = false }) none s.control m k)
       (cond u (halts Halt.DataOutside s m) (completed (changed s e r) (stored_to r v m)))
   unfolding done_of changed
   does_same s m true a v e r = halts_same Halt.DataOutside a s m

@@ -33,6 +33,7 @@ use Rattle.instruction.specs.Parts.{half_of, first_half, second_half, is_long_ki
 use Rattle.instruction.specs.declared.Reply.{Reply}
 use Rattle.instruction.specs.declared.Halt.{Halt}
 use Rattle.instruction.specs.declared.Reach.{Reach}
+use Rattle.instruction.specs.declared.Act.{Act}
 use Rattle.instruction.proofs.Laws.{fetch_by_parts}
 use Rattle.machine.specs.State.{value_at}
 use Rattle.machine.specs.Step.{Stepped, stopped, completed, lowest, chosen, stored_to, marked_to, entry_by, data_of, entry_done, done_of, line_of, halt_step, act_step, instr_step, fetch_step, event_step, step_of}
@@ -57,10 +58,10 @@ pub record SameDone (d e : Done) : Type 0 where
 
 -- an instruction in both runs, with its data address, which shows if it is a bus error; a marked base's does not
 -- and what it reaches in memory m lies inside
-data SameAct (m : List ℕ) : Result (Effect × Taint × Reach) Halt → Option ByteAddr → Result (Effect × Taint × Reach) Halt → Option ByteAddr → Type 0 where
-  marked : (p q : Option ByteAddr) → SameAct m (Err Halt.MarkedOperand) p (Err Halt.MarkedOperand) q
-  misses : (p : Option ByteAddr) → SameAct m (Err Halt.DataOutside) p (Err Halt.DataOutside) p
-  does : {e g : Effect} (t : Taint) (r : Reach) (p : Option ByteAddr) → outside r m ≡ false → SameEffect t e g → SameAct m (Ok (e, t, r)) p (Ok (g, t, r)) p
+data SameAct (m : List ℕ) : Act → Option ByteAddr → Act → Option ByteAddr → Type 0 where
+  marked : (p q : Option ByteAddr) → SameAct m (Act.Halted Halt.MarkedOperand) p (Act.Halted Halt.MarkedOperand) q
+  misses : (p : Option ByteAddr) → SameAct m (Act.Halted Halt.DataOutside) p (Act.Halted Halt.DataOutside) p
+  does : {e g : Effect} (t : Taint) (r : Reach) (p : Option ByteAddr) → outside r m ≡ false → SameEffect t e g → SameAct m (Act.Does e t r) p (Act.Does g t r) p
 
 pub data SameStep : Stepped → Stepped → Type 0 where
   stops : (r : Reply) → SameStep (stopped r) (stopped r)
@@ -181,12 +182,12 @@ line_same : {f g : Flags} {a b : Control} → SameControl f a b → (r : Reach) 
 unfolding line_of
 line_same s r e h c = ap₂ (λ (p : ℕ) (x : Entry). record { pc = record { 0 = p }; entry = x; address = data_of r }) (pc_same s) (entry_same r c)
 
-does_by : {m : List ℕ} {e g : Effect} {t u : Taint} (r : Reach) (p : Option ByteAddr) → outside r m ≡ false → t ≡ u → SameEffect t e g → SameAct m (Ok (e, t, r)) p (Ok (g, u, r)) p
-does_by {m} {e} {g} {t} r p o q s = subst (λ (v : Taint). SameAct m (Ok (e, t, r)) p (Ok (g, v, r)) p) q (does t r p o s)
+does_by : {m : List ℕ} {e g : Effect} {t u : Taint} (r : Reach) (p : Option ByteAddr) → outside r m ≡ false → t ≡ u → SameEffect t e g → SameAct m (Act.Does e t r) p (Act.Does g u r) p
+does_by {m} {e} {g} {t} r p o q s = subst (λ (v : Taint). SameAct m (Act.Does e t r) p (Act.Does g v r) p) q (does t r p o s)
 
 -- "data outside" answers the same in both runs
-choose : {m : List ℕ} {a b : Result (Effect × Taint × Reach) Halt} (p : Option ByteAddr) (t u : Bool) → t ≡ u → (t ≡ false → SameAct m a p b p)
-    → SameAct m (cond t (Err Halt.DataOutside) a) p (cond u (Err Halt.DataOutside) b) p
+choose : {m : List ℕ} {a b : Act} (p : Option ByteAddr) (t u : Bool) → t ≡ u → (t ≡ false → SameAct m a p b p)
+    → SameAct m (cond t (Act.Halted Halt.DataOutside) a) p (cond u (Act.Halted Halt.DataOutside) b) p
 choose p true true e s = misses p
 choose p false false e s = s refl
 choose p true false e s = let z : ◌≡◌ {A = ℕ} 0 1 = cc in absurd (omega arith)
@@ -214,15 +215,15 @@ module _ {km : List Bool} {ra rb : List ℕ} (regs : SameList false km ra rb) {f
       my : Bool
       my = get_or km y false
 
-      first : Reach → Result (Effect × Taint × Reach) Halt
+      first : Reach → Act
       first r =
-          cond (outside r m) (Err Halt.DataOutside)
-          (Ok (exec i (get_or ra x 0) (get_or ra y 0) (loaded_from r m) a, taint i mx my (loaded_mark r k) (tf a) f, r))
+          cond (outside r m) (Act.Halted Halt.DataOutside)
+          (Act.Does (exec i (get_or ra x 0) (get_or ra y 0) (loaded_from r m) a) (taint i mx my (loaded_mark r k) (tf a) f) r)
 
-      second : Reach → Result (Effect × Taint × Reach) Halt
+      second : Reach → Act
       second r =
-          cond (outside r n) (Err Halt.DataOutside)
-          (Ok (exec i (get_or rb x 0) (get_or rb y 0) (loaded_from r n) b, taint i mx my (loaded_mark r k) (tf b) f, r))
+          cond (outside r n) (Act.Halted Halt.DataOutside)
+          (Act.Does (exec i (get_or rb x 0) (get_or rb y 0) (loaded_from r n) b) (taint i mx my (loaded_mark r k) (tf b) f) r)
 
       at_reach : blocked i my f ≡ false → (r : Reach) → SameAct m (first r) (data_of r) (second r) (data_of r)
       at_reach h r =
@@ -237,7 +238,7 @@ module _ {km : List Bool} {ra rb : List ℕ} (regs : SameList false km ra rb) {f
       there = reach_of i (get_or rb y 0) b
 
       go : (t : Bool) → blocked i my f ≡ t
-          → SameAct m (cond t (Err Halt.MarkedOperand) (first here)) (data_of here) (cond t (Err Halt.MarkedOperand) (second there)) (data_of there)
+          → SameAct m (cond t (Act.Halted Halt.MarkedOperand) (first here)) (data_of here) (cond t (Act.Halted Halt.MarkedOperand) (second there)) (data_of there)
       go true h = marked (data_of here) (data_of there)
       go false h =
           subst (λ (r : Reach). SameAct m (first here) (data_of here) (second r) (data_of r)) (reach_same i my (get_or ra y 0) (get_or rb y 0) (regs.equal y) s h)
@@ -262,11 +263,11 @@ module _ {km : List Bool} {ra rb : List ℕ} (regs : SameList false km ra rb) {f
   halted Halt.MarkedOperand p = stops Reply.MarkedOperand
   halted Halt.DataOutside p = enters_same Entry.DataError p (onwards s 2)
 
-  acted : {A B : Result (Effect × Taint × Reach) Halt} {p q : Option ByteAddr} → SameAct m A p B q → (x : ℕ) → SameStep (act_step A p (value_at one x) f a m k) (act_step B q (value_at other x) f b n k)
+  acted : {A B : Act} {p q : Option ByteAddr} → SameAct m A p B q → (x : ℕ) → SameStep (act_step A p (value_at one x) f a m k) (act_step B q (value_at other x) f b n k)
   acted (marked p q) x = stops Reply.MarkedOperand
   acted (misses p) x = halted Halt.DataOutside p
   acted (does {e} {g} t r p o q) x =
-      subst (λ (l : Line). SameStep (act_step (Ok (e, t, r)) p (value_at one x) f a m k) (completed (done_of b g t r) (stored_to r (get_or rb x 0) n) (marked_to r (get_or km x false) k) l))
+      subst (λ (l : Line). SameStep (act_step (Act.Does e t r) p (value_at one x) f a m k) (completed (done_of b g t r) (stored_to r (get_or rb x 0) n) (marked_to r (get_or km x false) k) l))
       (line_same s r e g q.control)
       (goes (line_of a e r) (done_same s t r q) (stored_same mem each r _ _ _ o (regs.equal x)) (each_same mem each r _ _))
 

@@ -37,6 +37,7 @@ use Rattle.instruction.specs.Statements.{decoded_at, Is, short, long}
 use Rattle.instruction.specs.declared.Halt.{Halt}
 use Rattle.instruction.specs.declared.Reach.{Reach}
 use Rattle.instruction.specs.declared.Reply.{Reply}
+use Rattle.instruction.specs.declared.Act.{Act}
 use Rattle.instruction.proofs.Theorems.{runs_what_decodes}
 use Rattle.machine.specs.State.{value_at}
 use Rattle.machine.specs.Step.{Stepped, stopped, completed, chosen, stored_to, marked_to, entry_by, data_of, entry_done, entry_step, halt_step, done_of, line_of, act_step, fetch_step, step_of}
@@ -278,7 +279,7 @@ module _ (t : ℕ) (s : State) (m : List ℕ) (k : Marks) where
   module _ (i : Instr) (h : chosen t c ≡ Event.Instruction) (f : fetch_of (pc_of c) m k ≡ Ok i) where
     -- stopped by a marked operand, or a bus error
     outside_does : (o : Outside (reach_in i s m) (length m)) (b : Bool)
-        → DoesIn (by_data i h f o) (act_step (cond b (Err Halt.MarkedOperand) (Err Halt.DataOutside)) (data_of (reach i)) x s.flags c m k)
+        → DoesIn (by_data i h f o) (act_step (cond b (Act.Halted Halt.MarkedOperand) (Act.Halted Halt.DataOutside)) (data_of (reach i)) x s.flags c m k)
     unfolding entry_done entry_cost onward with_pc
     outside_does o true = tt
     outside_does o false =
@@ -307,7 +308,7 @@ module _ (t : ℕ) (s : State) (m : List ℕ) (k : Marks) where
         rw (q, cost, entry_of i x.value y.value (loaded_by (reach_in i s m) m) c, entry_costs (entered_by (reach_in i s m) c))
 
     inside_does : (o : Inside (reach_in i s m) (length m)) (b : Bool)
-        → DoesIn (by_instruction i h f o) (act_step (cond b (Err Halt.MarkedOperand) (Ok (made, marked, reach i))) (data_of (reach i)) x s.flags c m k)
+        → DoesIn (by_instruction i h f o) (act_step (cond b (Act.Halted Halt.MarkedOperand) (Act.Does made marked (reach i))) (data_of (reach i)) x s.flags c m k)
     unfolding done_of line_of
     inside_does o true = tt
     inside_does o false =
@@ -353,7 +354,7 @@ module _ (t : ℕ) (s : State) (m : List ℕ) (k : Marks) where
 
   act_way : (i : Instr) (b u : Bool) (e : Effect) (n : Taint) → chosen t c ≡ Event.Instruction → fetch_of (pc_of c) m k ≡ Ok i
       → any_of (found i) (stop_from i) ≡ b → outside (reach i) m ≡ u
-      → HasWay (act_step (cond b (Err Halt.MarkedOperand) (cond u (Err Halt.DataOutside) (Ok (e, n, reach i)))) (data_of (reach i)) x s.flags c m k)
+      → HasWay (act_step (cond b (Act.Halted Halt.MarkedOperand) (cond u (Act.Halted Halt.DataOutside) (Act.Does e n (reach i)))) (data_of (reach i)) x s.flags c m k)
   act_way i true u e n h f p o = marked_operand i h f p
   act_way i false true e n h f p o = by_data i h f (outside_of m (alike i) o)
   act_way i false false e n h f p o = by_instruction i h f (inside_of m (alike i) o)
@@ -379,7 +380,7 @@ module _ (t : ℕ) (s : State) (m : List ℕ) (k : Marks) where
 
   -- a marked operand stops
   blocked_stops : (i : Instr) (b u : Bool) (e : Effect) (n : Taint) → b ≡ true
-      → act_step (cond b (Err Halt.MarkedOperand) (cond u (Err Halt.DataOutside) (Ok (e, n, reach i)))) (data_of (reach i)) x s.flags c m k
+      → act_step (cond b (Act.Halted Halt.MarkedOperand) (cond u (Act.Halted Halt.DataOutside) (Act.Does e n (reach i)))) (data_of (reach i)) x s.flags c m k
       ≡ stopped Reply.MarkedOperand
   blocked_stops i true u e n q = refl
   blocked_stops i false u e n q = absurd (true≢false (sym q))

@@ -1,16 +1,14 @@
 -- Parts that only the contracts of this crate's helpers cite; proofs/Laws.antt ties them to seen_in.
 -- Assumes nothing.
-use Rattle.std.specs.Prelude.{Err, None, Ok, Option, Result, Some}
+use Rattle.std.specs.Prelude.{None, Option, Some}
 use Rattle.cpu.specs.Control.{pc_of}
 use Rattle.cpu.specs.declared.Control.{Control}
 use Rattle.cpu.specs.declared.Entry.{Entry}
 use Rattle.instruction.specs.declared.Halt.{Halt}
+use Rattle.instruction.specs.declared.Act.{Act}
 use Rattle.machine.specs.Step.{line_of}
 use Rattle.machine.specs.declared.Line.{Line}
 use Rattle.word.specs.declared.ByteAddr.{ByteAddr}
-use Rattle.cpu.specs.declared.Effect.{Effect}
-use Rattle.marks.specs.declared.Taint.{Taint}
-use Rattle.instruction.specs.declared.Reach.{Reach}
 
 -- the line of an entry e from control part c on, with data address a
 abbrev pub entry_line : Entry → Option ByteAddr → Control → Option Line
@@ -24,6 +22,6 @@ seen_halt Halt.NoInstruction a c = None
 seen_halt Halt.MarkedOperand a c = None
 seen_halt Halt.DataOutside a c = entry_line Entry.DataError a c
 
-abbrev pub seen_act : Result (Effect × Taint × Reach) Halt → Option ByteAddr → Control → Option Line
-seen_act (Err h) a c = seen_halt h a c
-seen_act (Ok (e, t, r)) a c = Some (line_of c e r)
+abbrev pub seen_act : Act → Option ByteAddr → Control → Option Line
+seen_act (Act.Halted h) a c = seen_halt h a c
+seen_act (Act.Does e t r) a c = Some (line_of c e r)

@@ -67,8 +67,8 @@ fn show_act(a: Act, address: Option<ByteAddr>, c: Control) -> Option<Line>
     ensures { result ≡ seen_act a address c }
 {
     match a {
-        Err(h) => show_halt(h, address, c),
-        Ok((e, _, r)) => entry_line(machine::entry_of(r, e.control), data_of(r), c),
+        Act::Halted(h) => show_halt(h, address, c),
+        Act::Does(e, _, r) => entry_line(machine::entry_of(r, e.control), data_of(r), c),
     }
 }
 

@@ -10,17 +10,16 @@ use Rattle.marks.specs.declared.Flags.{Flags}
 use Rattle.marks.specs.Memory.{Marks}
 use Rattle.instruction.specs.Act.{Val, act_of}
 use Rattle.instruction.specs.declared.Reach.{Reach}
+use Rattle.instruction.specs.declared.Act.{Act}
 use Rattle.machine.specs.Step.{Stepped, stopped, completed, marked_to, act_step, instr_step, fetch_step, event_step, step_of, after}
 use Rattle.machine.specs.Run.{Final, judge, go_on, steps_of, judged, run_of}
 use Rattle.machine.specs.declared.State.{State}
 use Rattle.machine.specs.declared.Event.{Event}
 use Rattle.wrong.specs.Rules.{true_rules, act_with, marked_with, act_step_with, instr_step_with, fetch_step_with, event_step_with, step_with, steps_with, judged_with, run_with}
+use Rattle.word.specs.declared.ByteAddr.{ByteAddr}
 use Rattle.instruction.specs.declared.Reply.{Reply}
 use Rattle.isa.specs.declared.Instr.{Instr}
 use Rattle.instruction.specs.declared.Halt.{Halt}
-use Rattle.word.specs.declared.ByteAddr.{ByteAddr}
-use Rattle.cpu.specs.declared.Effect.{Effect}
-use Rattle.marks.specs.declared.Taint.{Taint}
 
 marked_true : (r : Reach) (b : Bool) (k : Marks) → marked_with true_rules r b k ≡ marked_to r b k
 marked_true Reach.Nowhere b k = refl
@@ -28,9 +27,9 @@ marked_true (Reach.Reads w a) b k = refl
 marked_true (Reach.Writes w a) b k = refl
 marked_true (Reach.Raises n) b k = refl
 
-act_true : (q : Result (Effect × Taint × Reach) Halt) (a : Option ByteAddr) (x : Val) (f : Flags) (c : Control) (m : List ℕ) (k : Marks) → act_step_with true_rules q a x f c m k ≡ act_step q a x f c m k
-act_true (Err h) a x f c m k = refl
-act_true (Ok (e, t, r)) a x f c m k = rw marked_true
+act_true : (q : Act) (a : Option ByteAddr) (x : Val) (f : Flags) (c : Control) (m : List ℕ) (k : Marks) → act_step_with true_rules q a x f c m k ≡ act_step q a x f c m k
+act_true (Act.Halted h) a x f c m k = refl
+act_true (Act.Does e t r) a x f c m k = rw marked_true
 
 fetch_true : (f : Result Instr Halt) (s : State) (m : List ℕ) (k : Marks) → fetch_step_with true_rules f s m k ≡ fetch_step f s m k
 unfolding instr_step_with instr_step act_with act_of

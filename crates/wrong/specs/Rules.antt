@@ -19,13 +19,13 @@ use Rattle.instruction.specs.Act.{Val, reach_of, outside, loaded_from, loaded_ma
 use Rattle.instruction.specs.declared.Reply.{Reply}
 use Rattle.instruction.specs.declared.Halt.{Halt}
 use Rattle.instruction.specs.declared.Reach.{Reach}
+use Rattle.instruction.specs.declared.Act.{Act}
 use Rattle.machine.specs.State.{value_at}
 use Rattle.machine.specs.Step.{Stepped, completed, chosen, stored_to, data_of, entry_step, halt_step, done_of, line_of}
 use Rattle.machine.specs.Run.{Final, final, judge, go_on}
 use Rattle.machine.specs.declared.State.{State}
 use Rattle.machine.specs.declared.Event.{Event}
 use Rattle.wrong.specs.Models.{Model}
-use Rattle.cpu.specs.declared.Effect.{Effect}
 
 -- which operands stop an instruction, which results become marked, and what a store makes of memory's marks
 pub record Rules : Type 0 where
@@ -41,11 +41,13 @@ unmarked = record { tf = false; cy = false }
 
 -- ---- act_of, marked_to and the step, with the rules q
 
-unfoldable pub act_with : Rules → Instr → Val → Val → Flags → Control → List ℕ → Marks → Result (Effect × Taint × Reach) Halt
+unfoldable pub act_with : Rules → Instr → Val → Val → Flags → Control → List ℕ → Marks → Act
 act_with q i x y f c m k =
-    cond (q.blocked i y.mark f) (Err Halt.MarkedOperand)
-    (cond (outside (reach_of i y.value c) m) (Err Halt.DataOutside)
-    (Ok (exec i x.value y.value (loaded_from (reach_of i y.value c) m) c, q.taint i x.mark y.mark (loaded_mark (reach_of i y.value c) k) (tf c) f, reach_of i y.value c)))
+    cond (q.blocked i y.mark f) (Act.Halted Halt.MarkedOperand)
+    (cond (outside (reach_of i y.value c) m) (Act.Halted Halt.DataOutside)
+    (Act.Does (exec i x.value y.value (loaded_from (reach_of i y.value c) m) c)
+    (q.taint i x.mark y.mark (loaded_mark (reach_of i y.value c) k) (tf c) f)
+    (reach_of i y.value c)))
 
 abbrev pub marked_with : Rules → Reach → Bool → Marks → Marks
 marked_with q Reach.Nowhere b k = k
@@ -53,9 +55,9 @@ marked_with q (Reach.Reads w a) b k = k
 marked_with q (Reach.Writes w a) b k = q.stored w k a b
 marked_with q (Reach.Raises n) b k = k
 
-abbrev pub act_step_with : Rules → Result (Effect × Taint × Reach) Halt → Option ByteAddr → Val → Flags → Control → List ℕ → Marks → Stepped
-act_step_with q (Err h) a x f c m k = halt_step h a f c m k
-act_step_with q (Ok (e, t, r)) a x f c m k = completed (done_of c e t r) (stored_to r x.value m) (marked_with q r x.mark k) (line_of c e r)
+abbrev pub act_step_with : Rules → Act → Option ByteAddr → Val → Flags → Control → List ℕ → Marks → Stepped
+act_step_with q (Act.Halted h) a x f c m k = halt_step h a f c m k
+act_step_with q (Act.Does e t r) a x f c m k = completed (done_of c e t r) (stored_to r x.value m) (marked_with q r x.mark k) (line_of c e r)
 
 unfoldable pub instr_step_with : Rules → Instr → State → List ℕ → Marks → Stepped
 instr_step_with q i s m k =

@@ -1,6 +1,6 @@
 use Rattle.machine.specs.Step.{line_of}
 use Rattle.trace.proofs.show_act.Goals as goal
 
-pub returns-in-Ok : goal.returns-in-Ok
+pub returns-in-Does : goal.returns-in-Does
 unfolding line_of
-returns-in-Ok c = rw (c.entry_line.ensures, c.data_of.ensures, c.entry_of.ensures, c.in-Ok.is)
+returns-in-Does c = rw (c.entry_line.ensures, c.data_of.ensures, c.entry_of.ensures, c.in-Does.is)
