@@ -11,7 +11,7 @@ use lib.Arith.{digits_div, digits_mod}
 use lib.Pow.{mod-pow-add}
 use lib.Dec.{ltb}
 use lib.ListN.{length, get_or, set, take, drop, length-append, length-drop, take-append-drop, drop_of_length-le}
-use lib.Seq.{sets, sets-eq, set_comm, get_or_at, drop_at, get_or-drop, take_all, take-suc, take-suc-set, take-add, drop-cons, drop-drop}
+use lib.Seq.{sets, sets-eq, set_comm, get_or_at, drop_at, get_or-drop, take-suc, take-add, drop-cons, drop-drop, take_all, take-suc-set}
 use borrow.Author.Tests.{ltb-false}
 use Rattle.word.specs.Bits.{num}
 use Rattle.word.specs.Bytes.{load, store}
@@ -67,15 +67,15 @@ store_sets (suc n) m a v =
     ∙ sym (sets_append m a l (v % 256 ∷ []) ∙ ap (λ (k : ℕ). set (sets m a l) (a + k) (v % 256)) h)
 
 -- one more number written, and none left
-pub put_more : (k : ℕ) (m l : List ℕ) (i a b : ℕ) → i < length l → b ≡ a + k
-    → sets (store k m a (get_or l i 0)) b (laid k (drop (i + 1) l)) ≡ sets m a (laid k (drop i l))
+pub put_more : (k : ℕ) (m l : List ℕ) (i a b d : ℕ) → i < length l → b ≡ a + k
+    → sets (store k m a (get_or l i d)) b (laid k (drop (i + 1) l)) ≡ sets m a (laid k (drop i l))
 unfolding laid
-put_more k m l i a b h e =
-    let v : ℕ = get_or l i 0 in
+put_more k m l i a b d h e =
+    let v : ℕ = get_or l i d in
     let y : List ℕ = laid k (drop (suc i) l) in
     ap₂ (λ (j : ℕ) (r : List ℕ). sets r b (laid k (drop j l))) (add-one i) (store_sets k m a v)
     ∙ ap (λ (j : ℕ). sets (sets m a (bytes k v)) j y) (e ∙ ap (λ (n : ℕ). a + n) (sym (length_bytes k v)))
-    ∙ sym (ap (λ (r : List ℕ). sets m a (laid k r)) (drop-cons l i 0 h) ∙ sets_append m a (bytes k v) y)
+    ∙ sym (ap (λ (r : List ℕ). sets m a (laid k r)) (drop-cons l i d h) ∙ sets_append m a (bytes k v) y)
 
 pub put_none : (k : ℕ) (m l : List ℕ) (i a : ℕ) → length l ≤ i → sets m a (laid k (drop i l)) ≡ m
 unfolding laid

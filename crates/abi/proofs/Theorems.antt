@@ -1,5 +1,6 @@
 -- The theorems of this crate, each with its statement; read this file alone with specs/. Reading and writing a record are inverse.
 -- Assumes nothing.
+use Rattle.std.specs.Prelude.{Err}
 use Prim.Native.Nat.{ℕ, zero, suc, ◌^◌, ◌<◌}
 use mathlib.Core.Path.{◌≡◌, refl, sym, ap, ap₂, ◌∙◌}
 use mathlib.Core.Bool.{Bool, true, false}
@@ -11,9 +12,8 @@ use Rattle.instruction.specs.Reply.{number_of}
 use Rattle.machine.specs.Run.{judge, run_of}
 use Rattle.machine.specs.declared.State.{State}
 use Rattle.instruction.specs.declared.Reply.{Reply}
-use Rattle.machine.specs.declared.Judged.{Judged}
 use Rattle.laws.proofs.Theorems.{refusal_changes_nothing}
-use Rattle.abi.specs.Record.{each, state_at, flags, zeros, later_words, control_part, record_of, shaped, InRange, Bytes}
+use Rattle.abi.specs.Record.{each, state_at, zeros, later_words, control_part, record_of, shaped, InRange, Bytes}
 use Rattle.abi.specs.Call.{not_record, called}
 use Rattle.abi.proofs.Sixteen.{sixteen_at, run_sixteen}
 use Rattle.abi.proofs.Parts.{build, read_words, read_flags, in_parts, length_record, words_from, flags_from, words_part, flags_part, zeros_part, joined, in_shape, of_shape, flags_within, zeros_within, two, three, from136, from92, from88, from80, from64, rests}
@@ -79,7 +79,7 @@ call_leaves_record r m k t b e =
     rw e (record_shaped (run_of b t (state_at r) m k).ended.state h.0 h.1)
 
 -- 6. Refusals 1 to 6 change nothing, the record included.
-pub refusal_keeps_record : (r m : List ℕ) (k : Marks) (t : List ℕ) (b : ℕ) (q : Reply) → Bytes r → shaped r ≡ true → judge b t (state_at r) m k ≡ Judged.Refused q
+pub refusal_keeps_record : (r m : List ℕ) (k : Marks) (t : List ℕ) (b : ℕ) (q : Reply) → Bytes r → shaped r ≡ true → judge b t (state_at r) m k ≡ Err q
     → called r m k t b ≡ record { reply = number_of q; steps = 0; state = r; mem = m; marks = k }
 unfolding called
 refusal_keeps_record r m k t b q h e j = rw (e, refusal_changes_nothing b t (state_at r) m k q j, write_back r h e)

@@ -1,10 +1,13 @@
 // The static library: one call runs the machine on a state that lies in a record of 160 bytes. include/manik.h is its C header.
 #![tactic(auto)]
 
-ghost use Rattle.std.specs.Prelude.{◌≡◌, ◌&&◌, ℕ, ◌+◌, ◌*◌, ◌≤◌, length};
+ghost use Rattle.std.specs.Prelude.{◌≡◌, ◌&&◌, ℕ, ◌+◌, ◌*◌, ◌≤◌, length, map, nat_lt};
 ghost use Rattle.std.proofs.lemmas.List.Edits.{sets};
+ghost use Rattle.word.specs.Bits.{num};
+ghost use Rattle.word.specs.Bytes.{bytes_of, load_of};
+ghost use Rattle.word.specs.declared.Width.{Width};
 ghost use Rattle.marks.specs.Memory.{bits};
-ghost use Rattle.abi.specs.Record.{word_at, flag_at, each, control_at, state_at, words, flags, control_part, record_in, within, shaped};
+ghost use Rattle.abi.specs.Record.{each, control_at, state_at, laid, control_part, record_in, within, shaped};
 ghost use Rattle.abi.specs.Call.{called};
 
 use cpu::Control;
@@ -12,62 +15,103 @@ use machine::State;
 use marks::Flags;
 use word::{ByteAddr, Width};
 
+// What the record holds: a number, in four bytes, or a flag, in one.
+trait Field: Copy {
+    ghost width: { Width };
+
+    ghost read: { ℕ → Self };
+
+    ghost number: { Self → ℕ };
+
+    fn width() -> Width
+        ensures { result ≡ width };
+
+    fn read(n: u32) -> Self
+        ensures { result ≡ read n };
+
+    fn number(self) -> u32
+        ensures { result ≡ number self };
+}
+
+impl Field for u32 {
+    ghost width = { Width.Word };
+
+    ghost read = { λ n. n };
+
+    ghost number = { λ n. n };
+
+    fn width() -> Width {
+        Width::Word
+    }
+
+    fn read(n: u32) -> u32 {
+        n
+    }
+
+    fn number(self) -> u32 {
+        self
+    }
+}
+
+impl Field for bool {
+    ghost width = { Width.Byte };
+
+    ghost read = { λ n. nat_lt 0 n };
+
+    ghost number = { num };
+
+    fn width() -> Width {
+        Width::Byte
+    }
+
+    fn read(n: u32) -> bool {
+        0 < n
+    }
+
+    fn number(self) -> u32 {
+        u32::from(self)
+    }
+}
+
 // ---- a state from its record
 
-fn word_at(r: &[u8], at: u32) -> u32
-    ensures { result ≡ word_at r.now at }
+fn at<T: Field>(r: &[u8], at: u32) -> T
+    ensures { result ≡ T.read (load_of T.width r.now (record { 0 = at })) }
 {
-    word::load(Width::Word, r, ByteAddr(at))
+    T::read(word::load(T::width(), r, ByteAddr(at)))
 }
 
-fn flag_at(r: &[u8], at: u32) -> bool
-    ensures { result ≡ flag_at r.now at }
+// Sixteen of them, one behind the other. By array::from_fn, and map on the way back, a call of one step takes 1,452 instructions in place of 691.
+fn sixteen_at<T: Field>(r: &[u8], from: u32) -> [T; 16]
+    requires { from ≤ 160 }
+    ensures { result ≡ each (λ a. T.read (load_of T.width r.now (record { 0 = a }))) (bytes_of T.width) 16 from }
 {
-    0 < word::load(Width::Byte, r, ByteAddr(at))
-}
-
-fn registers_at(r: &[u8]) -> [u32; 16]
-    ensures { result ≡ each (word_at r.now) 4 16 0 }
-{
-    let mut regs = [0u32; 16];
-    let mut i: usize = 0;
-    while i < 16 {
-        regs[i] = word_at(r, 4 * i as u32);
-        i += 1;
+    let size = word::bytes(T::width());
+    let mut all = [T::read(0); 16];
+    for i in 0..16 {
+        all[i] = at(r, from + size * i as u32);
     }
-    regs
-}
-
-fn marks_at(r: &[u8]) -> [bool; 16]
-    ensures { result ≡ each (flag_at r.now) 1 16 64 }
-{
-    let mut marks = [false; 16];
-    let mut i: usize = 0;
-    while i < 16 {
-        marks[i] = flag_at(r, 64 + i as u32);
-        i += 1;
-    }
-    marks
+    all
 }
 
 fn control_at(r: &[u8]) -> Control
     ensures { result ≡ control_at r.now }
 {
     Control {
-        pc: word_at(r, 80),
-        psw: word_at(r, 84),
-        pending: flag_at(r, 90),
-        ra: word_at(r, 92),
-        ipc: word_at(r, 96),
-        timer: word_at(r, 100),
-        ibase: word_at(r, 104),
-        usreg: word_at(r, 108),
-        hwdbg: word_at(r, 112),
-        bp0: word_at(r, 116),
-        bp1: word_at(r, 120),
-        wp0: word_at(r, 124),
-        wp1: word_at(r, 128),
-        cycles: word_at(r, 132),
+        pc: at(r, 80),
+        psw: at(r, 84),
+        pending: at(r, 90),
+        ra: at(r, 92),
+        ipc: at(r, 96),
+        timer: at(r, 100),
+        ibase: at(r, 104),
+        usreg: at(r, 108),
+        hwdbg: at(r, 112),
+        bp0: at(r, 116),
+        bp1: at(r, 120),
+        wp0: at(r, 124),
+        wp1: at(r, 128),
+        cycles: at(r, 132),
     }
 }
 
@@ -76,11 +120,11 @@ pub fn state_at(r: &[u8]) -> State
     ensures { result ≡ state_at r.now }
 {
     State {
-        regs: registers_at(r),
-        marks: marks_at(r),
+        regs: sixteen_at(r, 0),
+        marks: sixteen_at(r, 64),
         flags: Flags {
-            tf: flag_at(r, 88),
-            cy: flag_at(r, 89),
+            tf: at(r, 88),
+            cy: at(r, 89),
         },
         control: control_at(r),
     }
@@ -88,26 +132,16 @@ pub fn state_at(r: &[u8]) -> State
 
 // ---- a record from its state
 
-// Numbers one behind the other. No record is long, so the offsets fit.
-fn put_words(r: &mut [u8], at: u32, l: &[u32])
-    requires { (at + 4 * length l.now ≤ length r.old) × (length r.old ≤ 160) }
-    ensures { r.new ≡ sets r.old at (words l.now) }
+// Fields one behind the other. No record is long, so the offsets fit.
+fn put<T: Field>(r: &mut [u8], at: u32, l: &[T])
+    requires { (at + bytes_of T.width * length l.now ≤ length r.old) × (length r.old ≤ 160) }
+    ensures { r.new ≡ sets r.old at (laid (bytes_of T.width) (map T.number l.now)) }
 {
-    let mut i: usize = 0;
-    while i < l.len() {
-        word::store(Width::Word, r, ByteAddr(at + 4 * i as u32), l[i]);
-        i += 1;
-    }
-}
-
-fn put_flags(r: &mut [u8], at: u32, l: &[bool])
-    requires { (at + length l.now ≤ length r.old) × (length r.old ≤ 160) }
-    ensures { r.new ≡ sets r.old at (flags l.now) }
-{
-    let mut i: usize = 0;
-    while i < l.len() {
-        word::store(Width::Byte, r, ByteAddr(at + i as u32), word::number(l[i]));
-        i += 1;
+    let size = word::bytes(T::width());
+    let mut to = at;
+    for x in l {
+        word::store(T::width(), r, ByteAddr(to), x.number());
+        to += size;
     }
 }
 
@@ -116,29 +150,25 @@ fn put_control(r: &mut [u8], f: Flags, c: Control)
     requires { length r.old ≡ 160 }
     ensures { r.new ≡ sets r.old 80 (control_part f c) }
 {
-    put_words(r, 80, &[c.pc, c.psw]);
-    put_flags(r, 88, &[f.tf, f.cy, c.pending, false]);
-    put_words(
+    put(r, 80, &[c.pc, c.psw]);
+    put(r, 88, &[f.tf, f.cy, c.pending, false]);
+    put(
         r,
         92,
         &[
             c.ra, c.ipc, c.timer, c.ibase, c.usreg, c.hwdbg, c.bp0, c.bp1, c.wp0, c.wp1, c.cycles,
         ],
     );
-    put_flags(r, 136, &[false; 24]);
+    put(r, 136, &[false; 24]);
 }
 
 fn put_state(r: &mut [u8], s: State)
     ensures { r.new ≡ record_in s r.old }
 {
     if r.len() == 160 {
-        let regs = s.regs;
-        let marks = s.marks;
-        let flags = s.flags;
-        let control = s.control;
-        put_words(r, 0, &regs);
-        put_flags(r, 64, &marks);
-        put_control(r, flags, control);
+        put(r, 0, &s.regs);
+        put(r, 64, &s.marks);
+        put_control(r, s.flags, s.control);
     }
 }
 
@@ -148,20 +178,19 @@ fn is_within(limit: u8, at: usize, n: usize, r: &[u8]) -> bool
     requires { at + n ≤ length r.now }
     ensures { result ≡ within limit at n r.now }
 {
-    let end = at + n;
-    !word::has_above(limit, &r[at..end])
+    !word::has_above(limit, &r[at..at + n])
 }
 
-// The length, marks and flags of 0 or 1, and zero where zero stands.
+// The length, marks and flags of 0 or 1, and zero where zero stands. By `&` all bytes are looked at, many at once: by `&&` a call of one step takes 752
+// instructions in place of 694.
 pub fn is_shaped(r: &[u8]) -> bool
     ensures { result ≡ shaped r.now }
 {
-    if r.len() == 160 {
-        let ones = word::both(is_within(1, 64, 16, r), is_within(1, 88, 3, r));
-        let gap = word::both(ones, is_within(0, 91, 1, r));
-        return word::both(gap, is_within(0, 136, 24, r));
-    }
-    false
+    r.len() == 160
+        && is_within(1, 64, 16, r)
+            & is_within(1, 88, 3, r)
+            & is_within(0, 91, 1, r)
+            & is_within(0, 136, 24, r)
 }
 
 // Reply 0 where there is no record; else the run of the state that it holds, with document 01's reply number.

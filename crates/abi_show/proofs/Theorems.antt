@@ -1,5 +1,6 @@
 -- What a look shows is what the run of that step shows; read this file alone with specs/.
 -- Assumes nothing.
+use Rattle.std.specs.Prelude.{Err, None, Ok, Option, Result, Some}
 use Prim.Native.Nat.{ℕ}
 use mathlib.Core.Path.{◌≡◌, refl, sym, ◌∙◌}
 use mathlib.Core.List.{List, [], ◌∷◌, map}
@@ -8,19 +9,18 @@ use Rattle.machine.specs.Step.{Stepped, stopped, completed, step_of}
 use Rattle.machine.specs.Run.{judge}
 use Rattle.machine.specs.Trace.{Shown, trace_on, trace_of, shown, shown_of}
 use Rattle.machine.specs.declared.State.{State}
-use Rattle.machine.specs.declared.Judged.{Judged}
 use Rattle.machine.specs.declared.Line.{Line}
 use Rattle.trace.specs.Seen.{seen_in}
-use Rattle.trace.specs.declared.Seen.{Seen}
 use Rattle.abi_show.specs.Show.{unless_refused, look_of, show_of}
+use Rattle.instruction.specs.declared.Reply.{Reply}
 
 -- the lines of a trace, and of a look
 abbrev lines_of : List Shown → List Line
 lines_of l = map (λ x. x.line) l
 
-abbrev lines_in : Seen → List Line
-lines_in Seen.Nothing = []
-lines_in (Seen.Step x) = x ∷ []
+abbrev lines_in : Option Line → List Line
+lines_in None = []
+lines_in (Some x) = x ∷ []
 
 -- 1. The lines of a run with a budget of 1 are the line of the look, or none.
 pub look_is_the_run : (t : ℕ) (s : State) (m : List ℕ) (k : Marks) → lines_of (shown_of 1 (t ∷ []) s m k) ≡ lines_in (look_of t s m k)
@@ -31,9 +31,9 @@ look_is_the_run t s m k = go (judge 1 (t ∷ []) s m k)
     one (stopped r) = refl
     one (completed d l j x) = refl
 
-    go : (j : Judged) → lines_of (shown j 1 (t ∷ []) s m k) ≡ lines_in (unless_refused j (seen_in (step_of t s m k)))
-    go (Judged.Refused r) = refl
-    go Judged.Good = one (step_of t s m k)
+    go : (j : Result Unit Reply) → lines_of (shown j 1 (t ∷ []) s m k) ≡ lines_in (unless_refused j (seen_in (step_of t s m k)))
+    go (Err r) = refl
+    go (Ok _) = one (step_of t s m k)
 
 -- 2. What manik_show ensures of its result and of the line's room determines them.
 abbrev Ensured : List ℕ → List ℕ → Marks → ℕ → List ℕ → ℕ → List ℕ → Type 0

@@ -1,6 +1,6 @@
 -- The line that the next step would show, and its record of 12 bytes, words with the highest byte first; include/manik.h has the same table.
 -- Assumes nothing.
-use Rattle.std.specs.Prelude.{ℕ, cond, List, [], ◌∷◌, eqb, length}
+use Rattle.std.specs.Prelude.{ℕ, cond, List, [], ◌∷◌, eqb, length, Err, None, Ok, Option, Result, Some}
 use Rattle.word.specs.Bytes.{store_of}
 use Rattle.word.specs.declared.Width.{Width}
 use Rattle.cpu.specs.declared.Entry.{Entry}
@@ -8,12 +8,11 @@ use Rattle.marks.specs.Memory.{Marks}
 use Rattle.machine.specs.Step.{step_of}
 use Rattle.machine.specs.Run.{judge}
 use Rattle.machine.specs.declared.State.{State}
-use Rattle.machine.specs.declared.Judged.{Judged}
-use Rattle.machine.specs.declared.Data.{Data}
 use Rattle.machine.specs.declared.Line.{Line}
 use Rattle.trace.specs.Seen.{seen_in}
-use Rattle.trace.specs.declared.Seen.{Seen}
 use Rattle.abi.specs.Record.{shaped, state_at}
+use Rattle.instruction.specs.declared.Reply.{Reply}
+use Rattle.word.specs.declared.ByteAddr.{ByteAddr}
 
 -- ---- a line as bytes
 
@@ -38,13 +37,13 @@ detail_of Entry.FetchError = 15
 detail_of Entry.DataError = 14
 
 -- whether there is a data address, and it; 0 where there is none
-abbrev pub is_at : Data → ℕ
-is_at Data.Nowhere = 0
-is_at (Data.At a) = 1
+abbrev pub is_at : Option ByteAddr → ℕ
+is_at None = 0
+is_at (Some a) = 1
 
-abbrev pub address_of : Data → ℕ
-address_of Data.Nowhere = 0
-address_of (Data.At a) = a.0
+abbrev pub address_of : Option ByteAddr → ℕ
+address_of None = 0
+address_of (Some a) = a.0
 
 -- a number v at place a
 unfoldable pub placed : Width → List ℕ → ℕ → ℕ → List ℕ
@@ -60,24 +59,24 @@ written_to x l =
 -- ---- the look
 
 -- a refused run shows nothing
-abbrev pub unless_refused : Judged → Seen → Seen
-unless_refused (Judged.Refused r) x = Seen.Nothing
-unless_refused Judged.Good x = x
+abbrev pub unless_refused : Result Unit Reply → Option Line → Option Line
+unless_refused (Err r) x = None
+unless_refused (Ok _) x = x
 
 -- what a run with a budget of 1 would show; t is the tape's byte
-unfoldable pub look_of : ℕ → State → List ℕ → Marks → Seen
+unfoldable pub look_of : ℕ → State → List ℕ → Marks → Option Line
 look_of t s m k = unless_refused (judge 1 (t ∷ []) s m k) (seen_in (step_of t s m k))
 
 pub record Look : Type 0 where
   pub found : ℕ
   pub line : List ℕ
 
-abbrev pub found : Seen → List ℕ → Look
-found Seen.Nothing l = record { found = 0; line = l }
-found (Seen.Step x) l = record { found = 1; line = written_to x l }
+abbrev pub found : Option Line → List ℕ → Look
+found None l = record { found = 0; line = l }
+found (Some x) l = record { found = 1; line = written_to x l }
 
 -- r is the state's record, m memory, k its marks, t the tape's byte, l the line's room
 unfoldable pub show_of : List ℕ → List ℕ → Marks → ℕ → List ℕ → Look
 show_of r m k t l =
-    cond (eqb (length l) 12) (cond (shaped r) (found (look_of t (state_at r) m k) l) (found Seen.Nothing l))
-    (found Seen.Nothing l)
+    cond (eqb (length l) 12) (cond (shaped r) (found (look_of t (state_at r) m k) l) (found None l))
+    (found None l)

@@ -3,25 +3,24 @@
 #![tactic(auto)]
 
 ghost use Rattle.std.specs.Prelude.{◌≡◌, [], ◌∷◌};
+ghost use Rattle.word.specs.Bits.{num};
 ghost use Rattle.marks.specs.Memory.{bits};
 ghost use Rattle.abi_show.specs.Show.{letter_of, detail_of, is_at, address_of, placed, written_to, look_of, show_of};
 
 use cpu::Entry;
-use machine::{Data, Judged, Line, State};
-use trace::Seen;
+use machine::{Line, State};
 use word::{ByteAddr, Width};
 
-fn letter(e: Entry) -> u32
+fn letter(e: Entry) -> u8
     ensures { result ≡ letter_of e }
 {
     match e {
-        Entry::Nothing => 45,
-        Entry::Swint(_) => 115,
-        Entry::Debug(_) => 100,
-        Entry::Timer => 116,
-        Entry::External(_) => 101,
-        Entry::FetchError => 98,
-        Entry::DataError => 98,
+        Entry::Nothing => b'-',
+        Entry::Swint(_) => b's',
+        Entry::Debug(_) => b'd',
+        Entry::Timer => b't',
+        Entry::External(_) => b'e',
+        Entry::FetchError | Entry::DataError => b'b',
     }
 }
 
@@ -29,32 +28,23 @@ fn detail(e: Entry) -> u32
     ensures { result ≡ detail_of e }
 {
     match e {
-        Entry::Nothing => 0,
-        Entry::Swint(n) => n,
-        Entry::Debug(hit) => hit,
-        Entry::Timer => 0,
-        Entry::External(i) => i,
+        Entry::Nothing | Entry::Timer => 0,
+        Entry::Swint(n) | Entry::Debug(n) | Entry::External(n) => n,
         Entry::FetchError => 15,
         Entry::DataError => 14,
     }
 }
 
-fn has_address(a: Data) -> u32
-    ensures { result ≡ is_at a }
+fn has_address(a: Option<ByteAddr>) -> bool
+    ensures { num result ≡ is_at a }
 {
-    match a {
-        Data::Nowhere => 0,
-        Data::At(_) => 1,
-    }
+    a.is_some()
 }
 
-fn address(a: Data) -> u32
+fn address(a: Option<ByteAddr>) -> u32
     ensures { result ≡ address_of a }
 {
-    match a {
-        Data::Nowhere => 0,
-        Data::At(at) => at.0,
-    }
+    a.map_or(0, |at| at.0)
 }
 
 fn place(w: Width, out: &mut [u8], at: u32, v: u32)
@@ -66,25 +56,21 @@ fn place(w: Width, out: &mut [u8], at: u32, v: u32)
 fn write_line(x: Line, out: &mut [u8])
     ensures { out.new ≡ written_to x out.old }
 {
-    let pc = x.pc;
-    let entry = x.entry;
-    let data = x.address;
-    place(Width::Word, out, 0, pc.0);
-    place(Width::Word, out, 4, address(data));
-    place(Width::Byte, out, 8, has_address(data));
-    place(Width::Byte, out, 9, letter(entry));
-    place(Width::Byte, out, 10, detail(entry));
+    place(Width::Word, out, 0, x.pc.0);
+    place(Width::Word, out, 4, address(x.address));
+    place(Width::Byte, out, 8, u32::from(has_address(x.address)));
+    place(Width::Byte, out, 9, u32::from(letter(x.entry)));
+    place(Width::Byte, out, 10, detail(x.entry));
     place(Width::Byte, out, 11, 0);
 }
 
 // What a run with a budget of 1 would show.
-fn look(lines: u8, s: State, m: &[u8], mk: &[u8]) -> Seen
+fn look(lines: u8, s: State, m: &[u8], mk: &[u8]) -> Option<Line>
     ensures { result ≡ look_of lines s m.now (bits mk.now) }
 {
-    let j = machine::judge_all(1, &[lines], s, m, mk);
-    match j {
-        Judged::Refused(_) => Seen::Nothing,
-        Judged::Good => trace::show(lines as u32, s, m, mk),
+    match machine::judge_all(1, &[lines], s, m, mk) {
+        Err(_) => None,
+        Ok(()) => trace::show(u32::from(lines), s, m, mk),
     }
 }
 
@@ -93,18 +79,10 @@ pub fn manik_show(state: &[u8], mem: &[u8], marks: &[u8], lines: u8, line: &mut 
     ensures value { result ≡ (show_of state.now mem.now (bits marks.now) lines line.old).found }
     ensures line_after { line.new ≡ (show_of state.now mem.now (bits marks.now) lines line.old).line }
 {
-    if line.len() == 12 {
-        if abi::is_shaped(state) {
-            let seen = look(lines, abi::state_at(state), mem, marks);
-            match seen {
-                Seen::Nothing => {
-                    return 0;
-                }
-                Seen::Step(x) => {
-                    write_line(x, line);
-                    return 1;
-                }
-            }
+    if line.len() == 12 && abi::is_shaped(state) {
+        if let Some(x) = look(lines, abi::state_at(state), mem, marks) {
+            write_line(x, line);
+            return 1;
         }
     }
     0

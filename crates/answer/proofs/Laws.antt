@@ -1,14 +1,12 @@
 -- Small laws that the functions' proofs cite.
 -- Assumes nothing.
 use Prim.Native.Nat.{ℕ, suc, ◌+◌, ◌-◌, ◌<◌, ◌≤◌}
-use mathlib.Core.Path.{◌≡◌, refl}
-use mathlib.Core.Bool.{Bool, true, false, cond}
+use mathlib.Core.Path.{◌≡◌}
+use mathlib.Core.Bool.{Bool, false}
 use mathlib.Core.List.{List, [], ◌∷◌}
 use native.Mathlib.Omega.{arith}
-use lib.ListN.{length, get_or, take, drop, drop_of_length-le}
-use lib.Dec.{ltb}
-use lib.Seq.{take_all, take-length, drop-length}
-use borrow.Author.Tests.{ltb-false, lt-ltb, le-ltb}
+use lib.ListN.{get_or}
+use borrow.Author.Tests.{lt-ltb, le-ltb}
 use Rattle.text.specs.Digits.{hex_text, decimal_text}
 use Rattle.text.specs.Pages.{Page, write_on}
 use Rattle.text.proofs.Pages.{write_append, write_three, write_five}
@@ -65,20 +63,3 @@ unfolding registers_text write_on
 registers_none regs marks i p h =
     let e : 16 - i ≡ 0 = omega arith in
     rw e
-
--- ---- parts of a room
-
--- a number of bytes cut to what there is
-pub take_cut : (l : List ℕ) (n r : ℕ) → r ≡ cond (ltb n (length l)) n (length l) → take r l ≡ take n l
-take_cut l n r e = go (ltb n (length l)) refl e
-  where
-    go : (t : Bool) → ltb n (length l) ≡ t → r ≡ cond t n (length l) → take r l ≡ take n l
-    go true h q = rw q
-    go false h q = rw (q, take-length l, take_all n l (ltb-false n (length l) h))
-
-pub drop_cut : (l : List ℕ) (n r : ℕ) → r ≡ cond (ltb n (length l)) n (length l) → drop r l ≡ drop n l
-drop_cut l n r e = go (ltb n (length l)) refl e
-  where
-    go : (t : Bool) → ltb n (length l) ≡ t → r ≡ cond t n (length l) → drop r l ≡ drop n l
-    go true h q = rw q
-    go false h q = rw (q, drop-length l, drop_of_length-le l (ltb-false n (length l) h))

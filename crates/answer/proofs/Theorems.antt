@@ -96,18 +96,18 @@ room_for_marks n m k h p q =
 
 -- An answer is `bad` with the line's number, or it is a run's; there is a reason exactly in the first case.
 pub data Judged (r : Reader) (m : List ℕ) (k : Marks) : Type 0 where
-  is_bad_lem : is_fault (why_of r).reason ≡ true → answer_by r m k ≡ badly r.number m k → Judged r m k
-  has_run : (n b : ℕ) → is_fault (why_of r).reason ≡ false → answer_by r m k ≡ ran_text n b m k → Judged r m k
+  is_bad_lem : is_fault (why_of r) ≡ true → answer_by r m k ≡ badly r.number m k → Judged r m k
+  has_run : (n b : ℕ) → is_fault (why_of r) ≡ false → answer_by r m k ≡ ran_text n b m k → Judged r m k
 
-judged : (r : Reader) (m : List ℕ) (k : Marks) → is_fault r.fault.reason ≡ is_bad r.phase → Judged r m k
+judged : (r : Reader) (m : List ℕ) (k : Marks) → is_fault r.fault ≡ is_bad r.phase → Judged r m k
 unfolding answered end_fault
 judged r m k h = go r.phase refl (eqb r.used 0) refl h
   where
-    go : (p : Phase) → r.phase ≡ p → (e : Bool) → eqb r.used 0 ≡ e → is_fault r.fault.reason ≡ is_bad p → Judged r m k
-    go Phase.First q true e h = is_bad_lem (rw (q, e)) (rw q)
-    go Phase.First q false e h = is_bad_lem (rw (q, e)) (rw q)
-    go (Phase.Body n) q true e h = is_bad_lem (rw (q, e)) (rw q)
-    go (Phase.Body n) q false e h = is_bad_lem (rw (q, e)) (rw q)
+    go : (p : Phase) → r.phase ≡ p → (e : Bool) → eqb r.used 0 ≡ e → is_fault r.fault ≡ is_bad p → Judged r m k
+    go Phase.First q true e h = is_bad_lem (rw q) (rw q)
+    go Phase.First q false e h = is_bad_lem (rw q) (rw q)
+    go (Phase.Body n) q true e h = is_bad_lem (rw q) (rw q)
+    go (Phase.Body n) q false e h = is_bad_lem (rw q) (rw q)
     go (Phase.Done n b) q true e h = has_run n b (rw (q, e)) (rw (q, e))
     go (Phase.Done n b) q false e h = is_bad_lem (rw (q, e)) (rw (q, e))
     go Phase.Bad q e z h = is_bad_lem (rw q h) (rw q)

@@ -1,5 +1,6 @@
 -- Bytes taken one by one come to the same as an input taken line by line.
 -- Assumes nothing.
+use Rattle.std.specs.Prelude.{None, Option, Some, ℕ}
 use Prim.Native.Nat.{ℕ, suc, ◌+◌, ◌%◌, ◌<◌, ◌≤◌}
 use mathlib.Core.Path.{◌≡◌, refl, sym, ap, ◌∙◌}
 use mathlib.Core.Bool.{Bool, true, false, cond, ◌&&◌}
@@ -12,7 +13,6 @@ use lib.Seq.{take-suc-set, length-take-le}
 use borrow.Author.Tests.{ltb-true, ltb-false, lt-ltb, le-leb, lt-leb, eqb-true, ne_eqb}
 use Rattle.text.specs.Digits.{digits_read, decimal_of, address_of, are_hex}
 use Rattle.text.specs.Fields.{before_of, beyond_of, same_of}
-use Rattle.text.specs.declared.Read.{Read}
 use Rattle.marks.specs.Memory.{Marks}
 use Rattle.script.specs.Line.{Told, told, blank, unmarked, size_of, budget_of, put_of, count_of, mark_of, first_of, body_of, line_of, number_after, word_mem, word_at, word_mark, word_run, are_bytes}
 use Rattle.script.specs.Fault.{good, fault_of}
@@ -40,7 +40,7 @@ same_long (x ∷ a) (y ∷ b) e = go (eqb x y) e (same_long a b)
 fields_long : (l : List ℕ) → length l ≤ length (before_of l) + 1 + length (beyond_of l)
 fields_long l = simp (length-take, length-drop) (omega arith)
 
-decimal_long : (l : List ℕ) → 5 < length l → decimal_of l ≡ Read.Nothing
+decimal_long : (l : List ℕ) → 5 < length l → decimal_of l ≡ None
 decimal_long l h = rw (le-leb 1 (length l) (omega arith), lt-leb (length l) 5 h)
 
 bytes_long : (l : List ℕ) → 32 < length l → are_bytes l ≡ false
@@ -67,11 +67,11 @@ module _ (n : ℕ) (m : List ℕ) (k : Marks) where
   unfolding put_of
   put_long r h = go (eqb (length (before_of r)) 8) refl
     where
-      bad : (a : Read) → are_bytes (beyond_of r) ≡ false → put_of a (beyond_of r) n m k ≡ told Phase.Bad m k
-      bad Read.Nothing e = refl
-      bad (Read.Number a) e = rw e
+      bad : (a : Option ℕ) → are_bytes (beyond_of r) ≡ false → put_of a (beyond_of r) n m k ≡ told Phase.Bad m k
+      bad None e = refl
+      bad (Some a) e = rw e
 
-      go : (t : Bool) → eqb (length (before_of r)) 8 ≡ t → put_of (cond t (digits_read 16 0 (before_of r)) Read.Nothing) (beyond_of r) n m k ≡ told Phase.Bad m k
+      go : (t : Bool) → eqb (length (before_of r)) 8 ≡ t → put_of (cond t (digits_read 16 0 (before_of r)) None) (beyond_of r) n m k ≡ told Phase.Bad m k
       go true e =
           let w : length (before_of r) ≡ 8 = eqb-true _ _ e in
           let f = fields_long r in
@@ -82,12 +82,12 @@ module _ (n : ℕ) (m : List ℕ) (k : Marks) where
   unfolding mark_of count_of
   mark_long r h = go (eqb (length (before_of r)) 8) refl
     where
-      bad : (a : Read) → mark_of a Read.Nothing n m k ≡ told Phase.Bad m k
-      bad Read.Nothing = refl
-      bad (Read.Number a) = refl
+      bad : (a : Option ℕ) → mark_of a None n m k ≡ told Phase.Bad m k
+      bad None = refl
+      bad (Some a) = refl
 
       go : (t : Bool) → eqb (length (before_of r)) 8 ≡ t
-          → mark_of (cond t (digits_read 16 0 (before_of r)) Read.Nothing) (decimal_of (beyond_of r)) n m k ≡ told Phase.Bad m k
+          → mark_of (cond t (digits_read 16 0 (before_of r)) None) (decimal_of (beyond_of r)) n m k ≡ told Phase.Bad m k
       go true e =
           let w : length (before_of r) ≡ 8 = eqb-true _ _ e in
           let f = fields_long r in
@@ -119,7 +119,7 @@ long_is_bad Phase.Bad l m k h = refl
 
 -- ---- bytes and lines
 
-abbrev reader : Phase → ℕ → ℕ → Fault → Reader
+abbrev reader : Phase → ℕ → ℕ → Option Fault → Reader
 reader p n u f = record { phase = p; number = n; used = u; fault = f }
 
 abbrev answer_fed : Fed → List ℕ
@@ -136,7 +136,7 @@ pub record Holds (u : ℕ) (line p : List ℕ) : Type 0 where
 
 -- from there on, bytes and lines come to the same answer
 abbrev Alike : List ℕ → Type 0
-Alike t = (ph : Phase) (n u : ℕ) (f : Fault) (line p m : List ℕ) (k : Marks) → Holds u line p
+Alike t = (ph : Phase) (n u : ℕ) (f : Option Fault) (line p m : List ℕ) (k : Marks) → Holds u line p
     → answer_fed (feed_of t (fed (reader ph n u f) line m k)) ≡ answer_told (after_lines (lines_of p t) (script (told ph m k) n)) (left_of p t)
 
 many : (u : ℕ) (line p : List ℕ) → Holds u line p → u ≡ length p
@@ -163,7 +163,7 @@ bad_told (b ∷ t) p m k n = go (eqb b 10) (bad_told t [] m k n) (bad_told t (p 
     go true x y = x
     go false x y = y
 
-bad_fed : (t line m : List ℕ) (k : Marks) (n u : ℕ) (f : Fault) → answer_fed (feed_of t (fed (reader Phase.Bad n u f) line m k)) ≡ bad_text n
+bad_fed : (t line m : List ℕ) (k : Marks) (n u : ℕ) (f : Option Fault) → answer_fed (feed_of t (fed (reader Phase.Bad n u f) line m k)) ≡ bad_text n
 unfolding answered
 bad_fed t line m k n u f =
     let s : Kept (fed (reader Phase.Bad n u f) line m k) (feed_of t (fed (reader Phase.Bad n u f) line m k)) = bad_stays t (fed (reader Phase.Bad n u f) line m k) refl in

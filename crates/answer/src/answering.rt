@@ -26,8 +26,8 @@ fn run_on(size: u32, budget: u32, m: &mut [u8], k: &mut [u8]) -> Ended
     ensures m_after { m.new ≡ (ran_of size budget m.old (bits k.old)).mem ++ drop size m.old }
     ensures k_after { bits k.new ≡ room_after size (ran_of size budget m.old (bits k.old)).marks (bits k.old) }
 {
-    let n = word::at_most(size as usize, m.len());
-    let j = word::at_most((size as usize + 7) / 8, k.len());
+    let n = (size as usize).min(m.len());
+    let j = (size as usize).div_ceil(8).min(k.len());
     run_fresh(budget, &mut m[..n], &mut k[..j])
 }
 
@@ -47,21 +47,14 @@ fn run_script(
 }
 
 // After the last part: the text that the program writes, from the start of `out`, and its length.
+#[tactic(auto, unfolding(crate::specs::Answer::answered))]
 pub fn answer(r: Reader, m: &mut [u8; 16384], k: &mut [u8; 2048], out: &mut [u8; 256]) -> usize
     ensures result_after { page out.new result ≡ write_on (answer_by r m.old (bits k.old)).text (page out.old 0) }
     ensures m_after { m.new ≡ (answer_by r m.old (bits k.old)).mem }
     ensures k_after { bits k.new ≡ (answer_by r m.old (bits k.old)).marks }
 {
-    let phase = r.phase;
-    match phase {
-        Phase::First => put_bad(out, r.number),
-        Phase::Body(_) => put_bad(out, r.number),
-        Phase::Bad => put_bad(out, r.number),
-        Phase::Done(size, budget) => {
-            if r.used == 0 {
-                return run_script(size, budget, m, k, out);
-            }
-            put_bad(out, r.number)
-        }
+    match r.phase {
+        Phase::Done(size, budget) if r.used == 0 => run_script(size, budget, m, k, out),
+        _ => put_bad(out, r.number),
     }
 }

@@ -5,6 +5,7 @@ ghost use Rattle.answer.specs.Answer.{bad_text, end_text, pc_text, register_line
 
 use machine::{Ended, State};
 
+#[tactic(auto, using(crate::proofs::Laws::write_bad))]
 pub fn put_bad(out: &mut [u8], n: u64) -> usize
     ensures { page out.new result ≡ write_on (bad_text n) (page out.old 0) }
 {
@@ -13,6 +14,7 @@ pub fn put_bad(out: &mut [u8], n: u64) -> usize
     text::put_all(out, b, b"\n")
 }
 
+#[tactic(auto, using(crate::proofs::Laws::write_end))]
 fn put_end(out: &mut [u8], reply: u32, steps: usize) -> usize
     ensures { page out.new result ≡ write_on (end_text reply steps) (page out.old 0) }
 {
@@ -23,6 +25,7 @@ fn put_end(out: &mut [u8], reply: u32, steps: usize) -> usize
     text::put_all(out, d, b"\n")
 }
 
+#[tactic(auto, using(crate::proofs::Laws::write_pc))]
 fn put_pc(out: &mut [u8], at: usize, x: u32) -> usize
     ensures { page out.new result ≡ write_on (pc_text x) (page out.old at) }
 {
@@ -31,6 +34,7 @@ fn put_pc(out: &mut [u8], at: usize, x: u32) -> usize
     text::put_all(out, b, b"\n")
 }
 
+#[tactic(auto, using(crate::proofs::Laws::write_register))]
 fn put_register_line(out: &mut [u8], at: usize, i: usize, t: &[u8]) -> usize
     ensures { page out.new result ≡ write_on (register_line i t.now) (page out.old at) }
 {
@@ -42,6 +46,7 @@ fn put_register_line(out: &mut [u8], at: usize, i: usize, t: &[u8]) -> usize
 }
 
 // A marked register's content is not even looked at.
+#[tactic(auto, unfolding(crate::specs::Answer::register_text, text::specs::Pages::write_on))]
 fn put_register(out: &mut [u8], at: usize, i: usize, v: u32, mark: bool) -> usize
     ensures { page out.new result ≡ write_on (register_text i v mark) (page out.old at) }
 {
@@ -51,41 +56,34 @@ fn put_register(out: &mut [u8], at: usize, i: usize, v: u32, mark: bool) -> usiz
     if v == 0 {
         return at;
     }
-    let digits = text::hex(v);
-    put_register_line(out, at, i, &digits)
+    put_register_line(out, at, i, &text::hex(v))
 }
 
 fn put_registers(out: &mut [u8], from: usize, regs: [u32; 16], marks: [bool; 16]) -> usize
     ensures { page out.new result ≡ write_on (registers_text 16 0 regs marks) (page out.old from) }
 {
     let mut at = from;
-    let mut i: usize = 0;
-    while i < 16 {
+    for i in 0..16 {
         at = put_register(out, at, i, regs[i], marks[i]);
-        i += 1;
     }
     at
 }
 
+#[tactic(auto, using(crate::proofs::Laws::write_state))]
 fn put_state(out: &mut [u8], at: usize, s: State) -> usize
     ensures { page out.new result ≡ write_on (state_text s) (page out.old at) }
 {
-    let regs = s.regs;
-    let marks = s.marks;
-    let control = s.control;
-    let a = put_pc(out, at, control.pc);
-    put_registers(out, a, regs, marks)
+    let a = put_pc(out, at, s.control.pc);
+    put_registers(out, a, s.regs, s.marks)
 }
 
 pub fn put_ended(out: &mut [u8], e: Ended) -> usize
     ensures { page out.new result ≡ write_on (ended_text e) (page out.old 0) }
 {
-    let reply = e.reply;
-    let state = e.state;
-    let n = instruction::number(reply);
+    let n = instruction::number(e.reply);
     let a = put_end(out, n, e.steps);
     if n < 10 {
         return a;
     }
-    put_state(out, a, state)
+    put_state(out, a, e.state)
 }

@@ -1,13 +1,13 @@
 -- The assembler: labels, refusals, and the image (document 02, ticket 4).
 -- Assumes nothing.
-use Rattle.std.specs.Prelude.{ℕ, suc, ◌+◌, ◌%◌, Bool, cond, not, ◌&&◌, ◌||◌, List, [], ◌∷◌, ◌++◌, ltb, eqb, ℤ, pos, length}
+use Rattle.std.specs.Prelude.{ℕ, suc, ◌+◌, ◌%◌, Bool, cond, not, ◌&&◌, ◌||◌, List, [], ◌∷◌, ◌++◌, ltb, eqb, ℤ, pos, length, Err, None, Ok, Option, Result, Some}
 use Rattle.word.specs.Numbers.{wrap}
 use Rattle.word.specs.Addresses.{byte_sum}
 use Rattle.word.specs.declared.ByteAddr.{ByteAddr}
 use Rattle.isa.specs.declared.Encoded.{Encoded}
 use Rattle.text.specs.Pages.{page, write_on}
 use Rattle.expr.specs.Expr.{Labels, labels, none, index_of, value_of}
-use Rattle.expr.specs.declared.Read.{Read as Valued}
+use Rattle.expr.specs.Expr.{Read as Valued}
 use Rattle.expr.specs.declared.Value.{Value}
 use Rattle.forms.specs.Form.{lines_of, body_of, field_at, named, what_in, shape_of, number_at, is_known_as, is_known}
 use Rattle.forms.specs.Says.{bits_of, bits_at, bytes_in}
@@ -15,8 +15,6 @@ use Rattle.forms.specs.declared.What.{What}
 use Rattle.forms.specs.declared.Sort.{Sort}
 use Rattle.forms.specs.declared.Shape.{Shape}
 use Rattle.asm.specs.declared.Refusal.{Refusal}
-use Rattle.asm.specs.declared.Checked.{Checked}
-use Rattle.asm.specs.declared.Assembled.{Assembled}
 
 -- ---- a line of known form
 
@@ -25,7 +23,7 @@ abbrev pub address_of : ℕ → ByteAddr
 address_of p = record { 0 = wrap p }
 
 abbrev pub zero_read : Valued
-zero_read = Valued.Got (Value.Is (pos 0)) 0
+zero_read = Ok (Value.Is (pos 0), 0)
 
 -- the value of the expression among a line's operands, 0 where there is none
 unfoldable pub sum_at : Labels → Sort → List ℕ → Valued → Valued
@@ -40,7 +38,7 @@ unfoldable pub line_value : Labels → Shape → List ℕ → Valued
 line_value t s b = sum_at t s.first (field_at 2 b) (sum_at t s.second (field_at 3 b) zero_read)
 
 -- its bits at a, for what it names and its value; none if that doesn't fit its place
-unfoldable pub line_bits : What → ByteAddr → List ℕ → ℤ → Encoded
+unfoldable pub line_bits : What → ByteAddr → List ℕ → ℤ → Option Encoded
 line_bits w a b z =
     bits_at w a (number_at (shape_of w).first (field_at 2 b)) (number_at (shape_of w).second (field_at 3 b)) (number_at (shape_of w).third (field_at 4 b)) (bits_of z)
 
@@ -90,72 +88,76 @@ number_of Refusal.Many = 34
 number_of Refusal.Value = 35
 number_of Refusal.Room = 36
 
+-- the number of lines and the address after the last byte, or what is refused and the line
+abbrev pub Assembled : Type 0
+Assembled = Result (ℕ × ℕ) (Refusal × ℕ)
+
 -- what a call answers: 0 or the refusal's number; the number of lines, or the line refused; the address after the last byte, or 0
 abbrev pub reply_of : Assembled → ℕ
-reply_of (Assembled.Done i e) = 0
-reply_of (Assembled.Refused r i) = number_of r
+reply_of (Ok (i, e)) = 0
+reply_of (Err (r, i)) = number_of r
 
 abbrev pub line_of : Assembled → ℕ
-line_of (Assembled.Done i e) = i
-line_of (Assembled.Refused r i) = i
+line_of (Ok (i, e)) = i
+line_of (Err (r, i)) = i
 
 abbrev pub end_of : Assembled → ℕ
-end_of (Assembled.Done i e) = e
-end_of (Assembled.Refused r i) = 0
+end_of (Ok (i, e)) = e
+end_of (Err (r, i)) = 0
 
 -- the first of two checks that refuses
-abbrev pub before : Checked → Checked → Checked
-before Checked.Fine x = x
-before (Checked.Not r) x = Checked.Not r
+abbrev pub before : Result Unit Refusal → Result Unit Refusal → Result Unit Refusal
+before (Ok _) x = x
+before (Err r) x = Err r
 
-abbrev pub refused_if : Bool → Refusal → Checked
-refused_if t r = cond t (Checked.Not r) Checked.Fine
+abbrev pub refused_if : Bool → Refusal → Result Unit Refusal
+refused_if t r = cond t (Err r) (Ok tt)
 
 -- "33 label written twice, 34 too many labels"; s the names of the labels set before
-unfoldable pub label_check : List ℕ → ℕ → Checked
-label_check s k = cond (eqb k 0) Checked.Fine (before (refused_if (is_set s k) Refusal.Twice) (refused_if (not (has_room s)) Refusal.Many))
+unfoldable pub label_check : List ℕ → ℕ → Result Unit Refusal
+label_check s k = cond (eqb k 0) (Ok tt) (before (refused_if (is_set s k) Refusal.Twice) (refused_if (not (has_room s)) Refusal.Many))
 
 -- "35 value that doesn't fit its place"
-abbrev pub fit_check : Encoded → Checked
-fit_check (Encoded.Half h) = Checked.Fine
-fit_check (Encoded.Pair h s) = Checked.Fine
-fit_check Encoded.Nothing = Checked.Not Refusal.Value
+abbrev pub fit_check : Option Encoded → Result Unit Refusal
+fit_check (Some (Encoded.Half h)) = Ok tt
+fit_check (Some (Encoded.Pair h s)) = Ok tt
+fit_check None = Err Refusal.Value
 
 -- "31 ninth parenthesis, 32 unknown label", then those of the line's own label, then 35, and "36 no room in the image": x is of its own label, y of its room
-unfoldable pub value_check : What → ByteAddr → List ℕ → Checked → Checked → Valued → Checked
-value_check w a b x y (Valued.Not e) = Checked.Not Refusal.Deep
-value_check w a b x y (Valued.Got Value.Unknown n) = Checked.Not Refusal.Label
-value_check w a b x y (Valued.Got Value.Large n) = before x (Checked.Not Refusal.Value)
-value_check w a b x y (Valued.Got (Value.Is z) n) = before x (before (fit_check (line_bits w a b z)) y)
+unfoldable pub value_check : What → ByteAddr → List ℕ → Result Unit Refusal → Result Unit Refusal → Valued → Result Unit Refusal
+value_check w a b x y (Err e) = Err Refusal.Deep
+value_check w a b x y (Ok (Value.Unknown, n)) = Err Refusal.Label
+value_check w a b x y (Ok (Value.Large, n)) = before x (Err Refusal.Value)
+value_check w a b x y (Ok (Value.Is z, n)) = before x (before (fit_check (line_bits w a b z)) y)
 
 -- a line at a that names w: t all labels, s the names of those set before it, y the check of its room; "30 unknown form" comes first
-unfoldable pub line_check : Labels → List ℕ → ByteAddr → Checked → What → List ℕ → Checked
+unfoldable pub line_check : Labels → List ℕ → ByteAddr → Result Unit Refusal → What → List ℕ → Result Unit Refusal
 line_check t s a y w l =
-    cond (is_known_as w l) (value_check w a (body_of l) (label_check s (label_in l)) y (line_value t (shape_of w) (body_of l))) (Checked.Not Refusal.Form)
+    cond (is_known_as w l) (value_check w a (body_of l) (label_check s (label_in l)) y (line_value t (shape_of w) (body_of l))) (Err Refusal.Form)
 
 -- n bytes from p on, in an image of m
-unfoldable pub room_check : ℕ → ℕ → ℕ → Checked
+unfoldable pub room_check : ℕ → ℕ → ℕ → Result Unit Refusal
 room_check p n m = refused_if (ltb m (p + n)) Refusal.Room
 
 -- ---- the whole text: "first line first"
 
-abbrev pub go_on : Checked → ℕ → Assembled → Assembled
-go_on Checked.Fine i rest = rest
-go_on (Checked.Not r) i rest = Assembled.Refused r i
+abbrev pub go_on : Result Unit Refusal → ℕ → Assembled → Assembled
+go_on (Ok _) i rest = rest
+go_on (Err r) i rest = Err (r, i)
 
 -- i lines come before, and the next one stands at p
 unfoldable pub verdict_of : Labels → List ℕ → ℕ → ℕ → ℕ → List (List ℕ) → Assembled
-verdict_of t s p n i [] = Assembled.Done i p
+verdict_of t s p n i [] = Ok (i, p)
 verdict_of t s p n i (l ∷ r) =
     go_on (line_check t s (address_of p) (room_check p (shape_of (what_in l)).size n) (what_in l) l) (suc i)
     (verdict_of t (with_name s (label_in l)) (p + (shape_of (what_in l)).size) n (suc i) r)
 
 -- a value; 0 for what has none
 unfoldable pub value_in : Valued → ℤ
-value_in (Valued.Got (Value.Is z) n) = z
-value_in (Valued.Got Value.Large n) = pos 0
-value_in (Valued.Got Value.Unknown n) = pos 0
-value_in (Valued.Not e) = pos 0
+value_in (Ok (Value.Is z, n)) = z
+value_in (Ok (Value.Large, n)) = pos 0
+value_in (Ok (Value.Unknown, n)) = pos 0
+value_in (Err e) = pos 0
 
 -- the bytes of a line at a that names w, and of lines from a on; none of them refused
 unfoldable pub line_bytes : Labels → ByteAddr → What → List ℕ → List ℕ
@@ -182,11 +184,11 @@ answered x m = record { assembled = x; image = m }
 
 -- "the image unchanged" by a refusal
 abbrev pub image_after : Assembled → List ℕ → ℕ → List ℕ → List ℕ
-image_after (Assembled.Done i e) code s m = (write_on code (page m s)).text
-image_after (Assembled.Refused r i) code s m = m
+image_after (Ok (i, e)) code s m = (write_on code (page m s)).text
+image_after (Err (r, i)) code s m = m
 
 unfoldable pub verdict_in : List ℕ → ℕ → ℕ → Assembled
-verdict_in x s n = cond (is_outside s n) (Assembled.Refused Refusal.Start 0) (verdict_of (text_labels x s) [] s n 0 (lines_of x))
+verdict_in x s n = cond (is_outside s n) (Err (Refusal.Start, 0)) (verdict_of (text_labels x s) [] s n 0 (lines_of x))
 
 unfoldable pub assembled_of : List ℕ → ℕ → List ℕ → Answered
 assembled_of x s m =

@@ -1,26 +1,18 @@
 -- Words that only helpers' contracts cite.
 -- Assumes nothing.
-use Rattle.std.specs.Prelude.{ℕ, Bool, true, false, cond, ◌&&◌, ◌||◌, List, [], ◌∷◌, ℤ, length}
+use Rattle.std.specs.Prelude.{ℕ, Bool, true, false, cond, ◌&&◌, ◌||◌, List, [], ◌∷◌, length, Err, Result}
 use Rattle.word.specs.declared.ByteAddr.{ByteAddr}
-use Rattle.isa.specs.declared.Encoded.{Encoded}
 use Rattle.expr.specs.Expr.{Labels}
-use Rattle.expr.specs.declared.Read.{Read as Valued}
-use Rattle.expr.specs.declared.Value.{Value}
-use Rattle.forms.specs.Form.{body_of, shape_of, number_at, is_known_as, is_known}
-use Rattle.forms.specs.Says.{bits_of, bits_at}
-use Rattle.forms.specs.declared.Shape.{Shape}
+use Rattle.forms.specs.Form.{body_of, shape_of, is_known_as, is_known}
 use Rattle.forms.specs.declared.Sort.{Sort}
 use Rattle.forms.specs.declared.What.{What}
-use Rattle.asm.specs.Assemble.{address_of, zero_read, sum_at, line_value, label_in, before, fit_check, label_check, value_check, verdict_of, code_of, Answered, answered, image_after}
+use Rattle.asm.specs.Assemble.{address_of, line_value, label_in, label_check, value_check, verdict_of, code_of, Answered, answered, image_after}
 use Rattle.asm.specs.declared.Refusal.{Refusal}
-use Rattle.asm.specs.declared.Checked.{Checked}
 
 -- lines x from s on, with the labels t, where s is not outside the image
 unfoldable pub assembled_with : Labels → List (List ℕ) → ℕ → List ℕ → Answered
 assembled_with t x s m =
     answered (verdict_of t [] s (length m) 0 x) (image_after (verdict_of t [] s (length m) 0 x) (code_of t (address_of s) x) s m)
-
--- ---- a line by its operand fields x, y, z
 
 -- an expression stands there
 abbrev pub takes_sum : Sort → Bool
@@ -31,18 +23,6 @@ takes_sum Sort.Sfr = false
 takes_sum Sort.LowSfr = false
 takes_sum Sort.Sum = true
 
-abbrev pub value_by : Labels → Shape → List ℕ → List ℕ → Valued
-value_by t s x y = sum_at t s.first x (sum_at t s.second y zero_read)
-
-abbrev pub bits_by : What → Shape → ByteAddr → List ℕ → List ℕ → List ℕ → ℤ → Encoded
-bits_by w s a x y z v = bits_at w a (number_at s.first x) (number_at s.second y) (number_at s.third z) (bits_of v)
-
-unfoldable pub check_by : What → Shape → ByteAddr → List ℕ → List ℕ → List ℕ → Checked → Checked → Valued → Checked
-check_by w s a x y z l r (Valued.Not e) = Checked.Not Refusal.Deep
-check_by w s a x y z l r (Valued.Got Value.Unknown n) = Checked.Not Refusal.Label
-check_by w s a x y z l r (Valued.Got Value.Large n) = before l (Checked.Not Refusal.Value)
-check_by w s a x y z l r (Valued.Got (Value.Is v) n) = before l (before (fit_check (bits_by w s a x y z v)) r)
-
 -- ---- where the form is known
 
 -- every line is of known form
@@ -51,8 +31,8 @@ all_known [] = true
 all_known (l ∷ r) = is_known l && all_known r
 
 -- a line's check, where the form may be sure already
-unfoldable pub check_sure : Bool → Labels → List ℕ → ByteAddr → Checked → What → List ℕ → Checked
+unfoldable pub check_sure : Bool → Labels → List ℕ → ByteAddr → Result Unit Refusal → What → List ℕ → Result Unit Refusal
 check_sure sure t s a y w l =
     cond (sure || is_known_as w l)
     (value_check w a (body_of l) (label_check s (label_in l)) y (line_value t (shape_of w) (body_of l)))
-    (Checked.Not Refusal.Form)
+    (Err Refusal.Form)

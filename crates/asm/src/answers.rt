@@ -9,8 +9,8 @@ pub fn reply(a: Assembled) -> u32
     ensures { result ≡ reply_of a }
 {
     match a {
-        Assembled::Done(_, _) => 0,
-        Assembled::Refused(r, _) => number(r),
+        Ok(_) => 0,
+        Err((r, _)) => number(r),
     }
 }
 
@@ -18,8 +18,8 @@ pub fn line(a: Assembled) -> usize
     ensures { result ≡ line_of a }
 {
     match a {
-        Assembled::Done(lines, _) => lines,
-        Assembled::Refused(_, line) => line,
+        Ok((lines, _)) => lines,
+        Err((_, line)) => line,
     }
 }
 
@@ -27,22 +27,13 @@ pub fn end(a: Assembled) -> usize
     ensures { result ≡ end_of a }
 {
     match a {
-        Assembled::Done(_, after) => after,
-        Assembled::Refused(_, _) => 0,
+        Ok((_, after)) => after,
+        Err(_) => 0,
     }
 }
 
 pub fn number(r: Refusal) -> u32
     ensures { result ≡ number_of r }
 {
-    match r {
-        Refusal::Start => 29,
-        Refusal::Form => 30,
-        Refusal::Deep => 31,
-        Refusal::Label => 32,
-        Refusal::Twice => 33,
-        Refusal::Many => 34,
-        Refusal::Value => 35,
-        Refusal::Room => 36,
-    }
+    r as u32
 }

@@ -1,43 +1,80 @@
-// The table of labels, which is lent: the first `count` of 256 places.
-ghost use Rattle.std.specs.Prelude.{◌≡◌, ◌≤◌, length, take};
-ghost use Rattle.expr.specs.Expr.{labels};
-ghost use Rattle.asm.specs.Assemble.{is_new, with_name, with_label};
+// The table of labels: at most 256, since there is no heap.
+ghost use Rattle.std.specs.Prelude.{◌≡◌};
+ghost use Rattle.expr.specs.Expr.{none, labels_in};
+ghost use Rattle.asm.specs.Assemble.{is_new, with_label, label_check};
 
+use crate::Refusal;
+use expr::Entry;
+use std::marker::Model;
 use word::ByteAddr;
 
-fn is_new(seen: &[u64], k: u64) -> bool
-    ensures { result ≡ is_new seen.now k }
-{
-    if k == 0 {
-        return false;
-    }
-    if expr::find(seen, k) < seen.len() {
-        return false;
-    }
-    seen.len() < 256
+// The labels are the first `count` entries.
+#[derive(Drop)]
+pub struct Table {
+    entries: [Entry; 256],
+    count: usize,
 }
 
-// The names of the first `count` labels, and one more.
-pub fn add_name(seen: &mut [u64], count: usize, k: u64) -> usize
-    requires { (length seen.old ≡ 256) × (count ≤ 256) }
-    ensures { (take result seen.new ≡ with_name (take count seen.old) k) × (result ≤ 256) × (length seen.new ≡ 256) }
-{
-    if is_new(&seen[..count], k) {
-        seen[count] = k;
-        return count + 1;
-    }
-    count
+impl Model for Table {
+    ghost use Rattle.std.specs.Prelude.{◌≤◌, take};
+    ghost use Rattle.expr.specs.Expr.{Labels, labels_in};
+
+    ghost Value = { Labels };
+
+    ghost view = { λ t. labels_in (take t.count t.entries) };
+
+    ghost invariant = { λ t. t.count ≤ 256 };
 }
 
-pub fn add_label(keys: &mut [u64], places: &mut [u32], count: usize, k: u64, at: ByteAddr) -> usize
-    requires { (length keys.old ≡ 256) × (length places.old ≡ 256) × (count ≤ 256) }
-    ensures places_after { labels (take result keys.new) (take result places.new) ≡ with_label (labels (take count keys.old) (take count places.old)) k at }
-    ensures upper_bound { (result ≤ 256) × (length keys.new ≡ 256) × (length places.new ≡ 256) }
-{
-    if is_new(&keys[..count], k) {
-        keys[count] = k;
-        places[count] = at.0;
-        return count + 1;
+impl Table {
+    pub fn new() -> Self
+        ensures { result ≡ none }
+    {
+        Table {
+            entries: [Entry { name: 0, place: 0 }; 256],
+            count: 0,
+        }
     }
-    count
+
+    pub fn labels(&self) -> &[Entry]
+        ensures { labels_in result.now ≡ self.now }
+    {
+        &self.entries[..self.count]
+    }
+
+    fn is_new(&self, k: u64) -> bool
+        ensures { result ≡ is_new self.now.keys k }
+    {
+        let set = self.labels();
+        k != 0 && expr::find(set, k).is_none() && set.len() < 256
+    }
+
+    pub fn add(&mut self, k: u64, at: ByteAddr)
+        ensures { self.new ≡ with_label self.old k at }
+    {
+        if self.is_new(k) {
+            self.entries[self.count] = Entry {
+                name: k,
+                place: at.0,
+            };
+            self.count += 1;
+        }
+    }
+
+    // What is wrong with one label more.
+    pub fn check(&self, k: u64) -> Result<(), Refusal>
+        ensures { result ≡ label_check self.now.keys k }
+    {
+        if k == 0 {
+            return Ok(());
+        }
+        let set = self.labels();
+        if expr::find(set, k).is_some() {
+            return Err(Refusal::Twice);
+        }
+        if set.len() < 256 {
+            return Ok(());
+        }
+        Err(Refusal::Many)
+    }
 }

@@ -9,10 +9,10 @@ mod passes;
 pub use answers::{end, line, number, reply};
 pub use passes::assemble;
 
-// The numbers 29 to 36 of document 02, ticket 4, in their order.
+// The numbers of document 02, ticket 4.
 #[derive(Clone, Copy)]
 pub enum Refusal {
-    Start,
+    Start = 29,
     Form,
     Deep,
     Label,
@@ -22,22 +22,5 @@ pub enum Refusal {
     Room,
 }
 
-#[derive(Clone, Copy)]
-pub enum Checked {
-    Fine,
-    Not(Refusal),
-}
-
 // The number of lines and the address after the last byte, or what is refused and the line.
-#[derive(Clone, Copy)]
-pub enum Assembled {
-    Done(usize, usize),
-    Refused(Refusal, usize),
-}
-
-// How many labels are set, and whether every line is of known form.
-#[derive(Clone, Copy)]
-pub struct Collected {
-    pub count: usize,
-    pub known: bool,
-}
+pub type Assembled = Result<(usize, usize), (Refusal, usize)>;

@@ -1,245 +1,216 @@
 // A line of known form: its value, its bits, and what is wrong with it first.
-ghost use Rattle.std.specs.Prelude.{◌≡◌, ◌||◌, ◌-◌, ◌≤◌, eqb, length, get_or, take, drop};
-ghost use Rattle.expr.specs.Expr.{labels};
-ghost use Rattle.forms.specs.Form.{body_of, tabs_in, what_in, is_known_as};
+ghost use Rattle.std.specs.Prelude.{◌≡◌, ◌-◌, ◌≤◌, eqb, length, get_or, take, drop};
+ghost use Rattle.expr.specs.Expr.{labels_in};
+ghost use Rattle.forms.specs.Form.{body_of, field_at, tabs_in, what_in, is_known_as};
 ghost use Rattle.forms.specs.Parts.{first_line, cut_of, slots};
 ghost use Rattle.forms.specs.Says.{bytes_in};
-ghost use Rattle.asm.specs.Parts.{takes_sum, value_by, bits_by, check_by, check_sure};
-ghost use Rattle.asm.specs.Assemble.{label_in, before, label_check, fit_check, room_check, value_in, line_bytes};
+ghost use Rattle.asm.specs.Parts.{takes_sum, check_sure};
+ghost use Rattle.asm.specs.Assemble.{label_in, line_value, line_bits, value_check, room_check, value_in, line_bytes};
 
-use crate::{Checked, Refusal};
-use expr::{Read, Value};
+use crate::Refusal;
+use crate::labels::Table;
+use expr::{Entry, Read, Value};
 use forms::{
-    Cut, Shape, Sort, What, bits_at, bits_of, is_known, number_at, shape_of, tabs_in, what_of,
+    Cut, Shape, Sort, What, bits_at, bits_of, cut_line, is_known, number_at, shape_of, tabs_in,
+    what_of,
 };
 use isa::Encoded;
 use word::ByteAddr;
 
-// A part of the text that begins with a line.
-fn part(s: &[u8], from: usize, to: usize) -> &[u8]
-    requires { (from ≤ to) × (to ≤ length s.now) }
-    ensures { result.now ≡ take (to - from) (drop from s.now) }
-{
-    &s[from..to]
-}
-
-// What the first line of s names, whose fields stand at c.
-pub fn what_in(s: &[u8], c: Cut, table: &[u64; 312]) -> What
-    requires { (c ≡ cut_of s.now) × (table.now ≡ slots) }
-    ensures { result ≡ what_in (first_line s.now) }
-{
-    what_of(part(s, c.from1, c.to1), table)
-}
-
-// The number of the line's own label.
-pub fn label_in(s: &[u8], c: Cut) -> u64
-    requires { c ≡ cut_of s.now }
-    ensures { result ≡ label_in (first_line s.now) }
-{
-    expr::label(part(s, 0, c.to0))
-}
-
-fn tabs(s: &[u8], c: Cut) -> usize
-    requires { c ≡ cut_of s.now }
-    ensures { result ≡ tabs_in (body_of (first_line s.now)) }
-{
-    let more = tabs_in(part(s, c.from4, c.end));
-    c.from1 - c.to0 + (c.from2 - c.to1) + (c.from3 - c.to2) + (c.from4 - c.to3) + more
-}
-
 fn is_newline(s: &[u8], at: usize) -> bool
     ensures { result ≡ eqb (get_or s.now at 0) 10 }
 {
-    if at < s.len() {
-        return s[at] == 10;
-    }
-    false
-}
-
-pub fn is_known_as(w: What, s: &[u8], c: Cut) -> bool
-    requires { c ≡ cut_of s.now }
-    ensures { result ≡ is_known_as w (first_line s.now) }
-{
-    if is_newline(s, c.end) {
-        let label = part(s, 0, c.to0);
-        let x = part(s, c.from2, c.to2);
-        let y = part(s, c.from3, c.to3);
-        let z = part(s, c.from4, c.to4);
-        return is_known(shape_of(w), tabs(s, c), label, x, y, z);
-    }
-    false
+    at < s.len() && s[at] == 10
 }
 
 fn takes_sum(s: Sort) -> bool
     ensures { result ≡ takes_sum s }
 {
-    match s {
-        Sort::Nothing => false,
-        Sort::Never => false,
-        Sort::Reg => false,
-        Sort::Sfr => false,
-        Sort::LowSfr => false,
-        Sort::Sum => true,
-    }
+    matches!(s, Sort::Sum)
 }
 
-// The value of the expression among two fields.
-pub fn line_value(s: Shape, x: &[u8], y: &[u8], keys: &[u64], places: &[u32]) -> Read
-    ensures { result ≡ value_by (labels keys.now places.now) s x.now y.now }
-{
-    let first = s.first;
-    if takes_sum(first) {
-        return expr::evaluate(x, keys, places);
-    }
-    let second = s.second;
-    if takes_sum(second) {
-        return expr::evaluate(y, keys, places);
-    }
-    Read::Got(Value::Is(0), 0)
-}
-
-pub fn line_bits(w: What, s: Shape, at: ByteAddr, x: &[u8], y: &[u8], z: &[u8], v: i32) -> Encoded
-    ensures { result ≡ bits_by w s at x.now y.now z.now v }
-{
-    let first = s.first;
-    let second = s.second;
-    let third = s.third;
-    let one = number_at(first, x);
-    let two = number_at(second, y);
-    let three = number_at(third, z);
-    bits_at(w, at, one, two, three, bits_of(v))
-}
-
-pub fn value_in(r: Read) -> i32
+fn value_in(r: Read) -> i32
     ensures { result ≡ value_in r }
 {
-    match r {
-        Read::Got(v, _) => match v {
-            Value::Is(z) => z,
-            Value::Large => 0,
-            Value::Unknown => 0,
-        },
-        Read::Not(_) => 0,
-    }
-}
-
-fn label_check(seen: &[u64], k: u64) -> Checked
-    ensures { result ≡ label_check seen.now k }
-{
-    if k == 0 {
-        return Checked::Fine;
-    }
-    if expr::find(seen, k) < seen.len() {
-        return Checked::Not(Refusal::Twice);
-    }
-    if seen.len() < 256 {
-        return Checked::Fine;
-    }
-    Checked::Not(Refusal::Many)
-}
-
-fn fit_check(e: Encoded) -> Checked
-    ensures { result ≡ fit_check e }
-{
-    match e {
-        Encoded::Half(_) => Checked::Fine,
-        Encoded::Pair(_, _) => Checked::Fine,
-        Encoded::Nothing => Checked::Not(Refusal::Value),
+    let Ok((v, _)) = r else {
+        return 0;
+    };
+    match v {
+        Value::Is(z) => z,
+        Value::Large => 0,
+        Value::Unknown => 0,
     }
 }
 
 // Whether n bytes from `at` on lie in an image of `end` bytes.
-pub fn room_check(at: usize, n: u32, end: usize) -> Checked
+pub fn room_check(at: usize, n: u32, end: usize) -> Result<(), Refusal>
     requires { at ≤ end }
     ensures { result ≡ room_check at n end }
 {
     if end - at < n as usize {
-        return Checked::Not(Refusal::Room);
+        return Err(Refusal::Room);
     }
-    Checked::Fine
+    Ok(())
 }
 
-fn first_of(x: Checked, y: Checked) -> Checked
-    ensures { result ≡ before x y }
-{
-    match x {
-        Checked::Fine => y,
-        Checked::Not(r) => Checked::Not(r),
-    }
+// The first line of a text, and where its fields stand.
+#[derive(Clone, Copy)]
+pub struct Line<'a> {
+    pub text: &'a [u8],
+    pub cut: Cut,
+    ghost is_cut: { cut ≡ cut_of text.now },
 }
 
-fn value_check(
-    w: What,
-    s: Shape,
-    at: ByteAddr,
-    x: &[u8],
-    y: &[u8],
-    z: &[u8],
-    label: Checked,
-    room: Checked,
-    r: Read,
-) -> Checked
-    ensures { result ≡ check_by w s at x.now y.now z.now label room r }
-{
-    match r {
-        Read::Got(v, _) => match v {
+impl<'a> Line<'a> {
+    pub fn new(text: &'a [u8]) -> Self
+        ensures { result.text.now ≡ text.now }
+    {
+        Line {
+            text,
+            cut: cut_line(text),
+        }
+    }
+
+    fn part(&self, from: usize, to: usize) -> &'a [u8]
+        requires { (from ≤ to) × (to ≤ length self.now.text.now) }
+        ensures { result.now ≡ take (to - from) (drop from self.now.text.now) }
+    {
+        &self.text[from..to]
+    }
+
+    fn first(&self) -> &'a [u8]
+        ensures { result.now ≡ field_at 2 (body_of (first_line self.now.text.now)) }
+    {
+        self.part(self.cut.from2, self.cut.to2)
+    }
+
+    fn second(&self) -> &'a [u8]
+        ensures { result.now ≡ field_at 3 (body_of (first_line self.now.text.now)) }
+    {
+        self.part(self.cut.from3, self.cut.to3)
+    }
+
+    fn third(&self) -> &'a [u8]
+        ensures { result.now ≡ field_at 4 (body_of (first_line self.now.text.now)) }
+    {
+        self.part(self.cut.from4, self.cut.to4)
+    }
+
+    // What the line names.
+    pub fn what(&self, table: &[u64; 312]) -> What
+        requires { table.now ≡ slots }
+        ensures { result ≡ what_in (first_line self.now.text.now) }
+    {
+        what_of(self.part(self.cut.from1, self.cut.to1), table)
+    }
+
+    // The number of the line's own label.
+    pub fn label(&self) -> u64
+        ensures { result ≡ label_in (first_line self.now.text.now) }
+    {
+        expr::label(self.part(0, self.cut.to0))
+    }
+
+    fn tabs(&self) -> usize
+        ensures { result ≡ tabs_in (body_of (first_line self.now.text.now)) }
+    {
+        let c = self.cut;
+        let more = tabs_in(self.part(c.from4, c.end));
+        c.from1 - c.to0 + (c.from2 - c.to1) + (c.from3 - c.to2) + (c.from4 - c.to3) + more
+    }
+
+    pub fn is_known_as(&self, w: What) -> bool
+        ensures { result ≡ is_known_as w (first_line self.now.text.now) }
+    {
+        if is_newline(self.text, self.cut.end) {
+            let label = self.part(0, self.cut.to0);
+            return is_known(
+                shape_of(w),
+                self.tabs(),
+                label,
+                self.first(),
+                self.second(),
+                self.third(),
+            );
+        }
+        false
+    }
+
+    // The value of the expression among the operands.
+    fn value(&self, s: Shape, labels: &[Entry]) -> Read
+        ensures { result ≡ line_value (labels_in labels.now) s (body_of (first_line self.now.text.now)) }
+    {
+        if takes_sum(s.first) {
+            return expr::evaluate(self.first(), labels);
+        }
+        if takes_sum(s.second) {
+            return expr::evaluate(self.second(), labels);
+        }
+        Ok((Value::Is(0), 0))
+    }
+
+    fn bits(&self, w: What, at: ByteAddr, v: i32) -> Option<Encoded>
+        ensures { result ≡ line_bits w at (body_of (first_line self.now.text.now)) v }
+    {
+        let s = shape_of(w);
+        let one = number_at(s.first, self.first());
+        let two = number_at(s.second, self.second());
+        let three = number_at(s.third, self.third());
+        bits_at(w, at, one, two, three, bits_of(v))
+    }
+
+    fn value_check(
+        &self,
+        w: What,
+        at: ByteAddr,
+        label: Result<(), Refusal>,
+        room: Result<(), Refusal>,
+        r: Read,
+    ) -> Result<(), Refusal>
+        ensures { result ≡ value_check w at (body_of (first_line self.now.text.now)) label room r }
+    {
+        let Ok((v, _)) = r else {
+            return Err(Refusal::Deep);
+        };
+        match v {
             Value::Is(i) => {
-                let bits = line_bits(w, s, at, x, y, z, i);
-                first_of(label, first_of(fit_check(bits), room))
+                label?;
+                self.bits(w, at, i).ok_or(Refusal::Value)?;
+                room
             }
-            Value::Large => first_of(label, Checked::Not(Refusal::Value)),
-            Value::Unknown => Checked::Not(Refusal::Label),
-        },
-        Read::Not(_) => Checked::Not(Refusal::Deep),
+            Value::Large => {
+                label?;
+                Err(Refusal::Value)
+            }
+            Value::Unknown => Err(Refusal::Label),
+        }
     }
-}
 
-fn is_sure(sure: bool, w: What, s: &[u8], c: Cut) -> bool
-    requires { c ≡ cut_of s.now }
-    ensures { result ≡ (sure || is_known_as w (first_line s.now)) }
-{
-    if sure {
-        return true;
+    // `seen` are the labels set before the line, and `room` says whether its bytes lie in the image. Where the form of every line is known,
+    // it isn't judged again.
+    pub fn check(
+        &self,
+        sure: bool,
+        w: What,
+        labels: &[Entry],
+        seen: &Table,
+        at: ByteAddr,
+        room: Result<(), Refusal>,
+    ) -> Result<(), Refusal>
+        ensures { result ≡ check_sure sure (labels_in labels.now) seen.now.keys at room w (first_line self.now.text.now) }
+    {
+        if sure || self.is_known_as(w) {
+            let value = self.value(shape_of(w), labels);
+            let label = seen.check(self.label());
+            return self.value_check(w, at, label, room, value);
+        }
+        Err(Refusal::Form)
     }
-    is_known_as(w, s, c)
-}
 
-// `seen` are the labels set before the line, and `room` says whether its bytes lie in the image. Where the form of every line is known, it isn't
-// judged again.
-pub fn line_check(
-    sure: bool,
-    s: &[u8],
-    c: Cut,
-    w: What,
-    keys: &[u64],
-    places: &[u32],
-    seen: &[u64],
-    at: ByteAddr,
-    room: Checked,
-) -> Checked
-    requires { c ≡ cut_of s.now }
-    ensures { result ≡ check_sure sure (labels keys.now places.now) seen.now at room w (first_line s.now) }
-{
-    if is_sure(sure, w, s, c) {
-        let shape = shape_of(w);
-        let x = part(s, c.from2, c.to2);
-        let y = part(s, c.from3, c.to3);
-        let z = part(s, c.from4, c.to4);
-        let value = line_value(shape, x, y, keys, places);
-        let label = label_check(seen, label_in(s, c));
-        return value_check(w, shape, at, x, y, z, label, room, value);
+    pub fn encoded(&self, w: What, labels: &[Entry], at: ByteAddr) -> Option<Encoded>
+        ensures { bytes_in result ≡ line_bytes (labels_in labels.now) at w (first_line self.now.text.now) }
+    {
+        let value = self.value(shape_of(w), labels);
+        self.bits(w, at, value_in(value))
     }
-    Checked::Not(Refusal::Form)
-}
-
-pub fn line_bytes(s: &[u8], c: Cut, w: What, keys: &[u64], places: &[u32], at: ByteAddr) -> Encoded
-    requires { c ≡ cut_of s.now }
-    ensures { bytes_in result ≡ line_bytes (labels keys.now places.now) at w (first_line s.now) }
-{
-    let shape = shape_of(w);
-    let x = part(s, c.from2, c.to2);
-    let y = part(s, c.from3, c.to3);
-    let z = part(s, c.from4, c.to4);
-    let value = line_value(shape, x, y, keys, places);
-    line_bits(w, shape, at, x, y, z, value_in(value))
 }

@@ -1,17 +1,18 @@
 // The passes over a text: labels, refusals, bytes.
-ghost use Rattle.std.specs.Prelude.{◌≡◌, ◌≤◌, true, [], length, take};
+ghost use Rattle.std.specs.Prelude.{◌≡◌, ◌≤◌, true, [], length};
 ghost use Rattle.text.specs.Pages.{page, write_on};
-ghost use Rattle.expr.specs.Expr.{labels, none};
+ghost use Rattle.expr.specs.Expr.{none, labels_in};
 ghost use Rattle.forms.specs.Form.{lines_of};
-ghost use Rattle.forms.specs.Parts.{first_line, cut_of, slots};
+ghost use Rattle.forms.specs.Parts.{first_line, slots};
 ghost use Rattle.asm.specs.Parts.{assembled_with, all_known};
 ghost use Rattle.forms.specs.Says.{bytes_in};
-ghost use Rattle.asm.specs.Assemble.{address_of, label_for, bytes_for, labels_of, verdict_of, code_of, is_outside, answered, image_after, assembled_of};
+ghost use Rattle.asm.specs.Assemble.{address_of, label_for, bytes_for, labels_of, verdict_of, code_of, is_outside, answered, assembled_of};
 
-use crate::labels::{add_label, add_name};
-use crate::lines::{is_known_as, label_in, line_bytes, line_check, room_check, what_in};
-use crate::{Assembled, Checked, Collected, Refusal};
-use forms::{Cut, What, cut_line, shape_of, table};
+use crate::labels::Table;
+use crate::lines::{Line, room_check};
+use crate::{Assembled, Refusal};
+use expr::Entry;
+use forms::{What, shape_of, table};
 use isa::Encoded;
 use word::ByteAddr;
 
@@ -21,101 +22,43 @@ fn address_of(at: usize) -> ByteAddr
     ByteAddr((at % 4294967296) as u32)
 }
 
-fn label_for(known: bool, s: &[u8], c: Cut) -> u64
-    requires { c ≡ cut_of s.now }
-    ensures { result ≡ label_for known (first_line s.now) }
+fn label_for(known: bool, line: &Line) -> u64
+    ensures { result ≡ label_for known (first_line line.now.text.now) }
 {
-    if known {
-        return label_in(s, c);
-    }
-    0
+    if known { line.label() } else { 0 }
 }
 
 fn bytes_for(known: bool, w: What) -> u32
     ensures { result ≡ bytes_for known w }
 {
-    if known {
-        let s = shape_of(w);
-        return s.size;
-    }
-    0
+    if known { shape_of(w).size } else { 0 }
 }
 
-// The labels of the text, and whether it has lines of unknown form.
-fn collect(
-    text: &[u8],
-    table: &[u64; 312],
+// The labels of a text, and whether all its lines are of known form.
+#[derive(Drop)]
+struct Collected {
+    labels: Table,
+    known: bool,
+}
+
+// A text that is assembled from an address on, and the table of mnemonics.
+//
+// Its passes go by place and not over `split`: where a line ends is found while its fields are.
+#[derive(Clone, Copy)]
+struct Source<'a> {
+    text: &'a [u8],
+    table: &'a [u64; 312],
     start: usize,
-    keys: &mut [u64],
-    places: &mut [u32],
-) -> Collected
-    requires { (table.now ≡ slots) × (length keys.old ≡ 256) × (length places.old ≡ 256) }
-    ensures places_after { labels (take result.count keys.new) (take result.count places.new) ≡ labels_of none (address_of start) (lines_of text.now) }
-    ensures count_bound { (result.count ≤ 256) × (length keys.new ≡ 256) × (length places.new ≡ 256) }
-    ensures known_value { result.known ≡ all_known (lines_of text.now) }
-{
-    let mut count: usize = 0;
-    let mut all = true;
-    let mut a = address_of(start);
-    let mut at: usize = 0;
-    while at < text.len() {
-        let s = text::end_part(text, at);
-        let c = cut_line(s);
-        let w = what_in(s, c, table);
-        let known = is_known_as(w, s, c);
-        all = word::both(all, known);
-        count = add_label(keys, places, count, label_for(known, s, c), a);
-        a = word::byte_sum(a, bytes_for(known, w));
-        at += c.end + 1;
-    }
-    Collected { count, known: all }
+    ghost is_table: { table.now ≡ slots },
 }
 
-// Every line, the first refused one first.
-fn judge(
-    sure: bool,
-    text: &[u8],
-    table: &[u64; 312],
-    start: usize,
-    end: usize,
-    keys: &[u64],
-    places: &[u32],
-    seen: &mut [u64],
-) -> Assembled
-    requires { (table.now ≡ slots) × (length seen.old ≡ 256) × (start ≤ end) × (sure ≡ true → all_known (lines_of text.now) ≡ true) }
-    ensures { result ≡ verdict_of (labels keys.now places.now) [] start end 0 (lines_of text.now) }
-{
-    let mut count: usize = 0;
-    let mut to = start;
-    let mut lines: usize = 0;
-    let mut at: usize = 0;
-    while at < text.len() {
-        let s = text::end_part(text, at);
-        let c = cut_line(s);
-        let w = what_in(s, c, table);
-        let n = bytes_for(true, w);
-        let room = room_check(to, n, end);
-        let a = address_of(to);
-        let checked = line_check(sure, s, c, w, keys, places, &seen[..count], a, room);
-        match checked {
-            Checked::Fine => {
-                count = add_name(seen, count, label_in(s, c));
-                to += n as usize;
-                lines += 1;
-                at += c.end + 1;
-            }
-            Checked::Not(r) => {
-                return Assembled::Refused(r, lines + 1);
-            }
-        }
-    }
-    Assembled::Done(lines, to)
-}
-
-fn put_bits(image: &mut [u8], to: usize, e: Encoded) -> usize
+fn put_bits(image: &mut [u8], to: usize, e: Option<Encoded>) -> usize
     ensures { page image.new result ≡ write_on (bytes_in e) (page image.old to) }
 {
-    match e {
+    let Some(bits) = e else {
+        return to;
+    };
+    match bits {
         Encoded::Half(h) => {
             let bytes = [(h / 256) as u8, (h % 256) as u8];
             text::put_all(image, to, &bytes)
@@ -129,112 +72,102 @@ fn put_bits(image: &mut [u8], to: usize, e: Encoded) -> usize
             ];
             text::put_all(image, to, &bytes)
         }
-        Encoded::Nothing => to,
     }
-}
-
-// The bytes of all lines, none of which is refused.
-fn put_code(
-    image: &mut [u8],
-    start: usize,
-    text: &[u8],
-    table: &[u64; 312],
-    keys: &[u64],
-    places: &[u32],
-) -> usize
-    requires { table.now ≡ slots }
-    ensures { page image.new result ≡ write_on (code_of (labels keys.now places.now) (address_of start) (lines_of text.now)) (page image.old start) }
-{
-    let mut to = start;
-    let mut a = address_of(start);
-    let mut at: usize = 0;
-    while at < text.len() {
-        let s = text::end_part(text, at);
-        let c = cut_line(s);
-        let w = what_in(s, c, table);
-        to = put_bits(image, to, line_bytes(s, c, w, keys, places, a));
-        a = word::byte_sum(a, bytes_for(true, w));
-        at += c.end + 1;
-    }
-    to
 }
 
 fn is_outside(start: usize, end: usize) -> bool
     ensures { result ≡ is_outside start end }
 {
-    if start % 2 == 1 {
-        return true;
-    }
-    end < start
+    start % 2 == 1 || end < start
 }
 
-// Only a text that is not refused is written.
-fn put_judged(
-    verdict: Assembled,
-    text: &[u8],
-    table: &[u64; 312],
-    start: usize,
-    keys: &[u64],
-    places: &[u32],
-    image: &mut [u8],
-) -> Assembled
-    requires { table.now ≡ slots }
-    ensures value { result ≡ verdict }
-    ensures image_after { image.new ≡ image_after verdict (code_of (labels keys.now places.now) (address_of start) (lines_of text.now)) start image.old }
-{
-    match verdict {
-        Assembled::Done(lines, after) => {
-            put_code(image, start, text, table, keys, places);
-            Assembled::Done(lines, after)
+impl Source<'_> {
+    fn collect(&self) -> Collected
+        ensures labels_value { result.labels ≡ labels_of none (address_of self.now.start) (lines_of self.now.text.now) }
+        ensures known_value { result.known ≡ all_known (lines_of self.now.text.now) }
+    {
+        let mut labels = Table::new();
+        let mut known = true;
+        let mut a = address_of(self.start);
+        let mut at: usize = 0;
+        while at < self.text.len() {
+            let line = Line::new(text::end_part(self.text, at));
+            let w = line.what(self.table);
+            let is_known = line.is_known_as(w);
+            known &= is_known;
+            labels.add(label_for(is_known, &line), a);
+            a = word::byte_sum(a, bytes_for(is_known, w));
+            at += line.cut.end + 1;
         }
-        Assembled::Refused(r, line) => Assembled::Refused(r, line),
+        Collected { labels, known }
     }
-}
 
-fn assemble_with(
-    sure: bool,
-    text: &[u8],
-    table: &[u64; 312],
-    start: usize,
-    keys: &[u64],
-    places: &[u32],
-    image: &mut [u8],
-) -> Assembled
-    requires { (table.now ≡ slots) × (start ≤ length image.old) × (sure ≡ true → all_known (lines_of text.now) ≡ true) }
-    ensures { answered result image.new ≡ assembled_with (labels keys.now places.now) (lines_of text.now) start image.old }
-{
-    let mut seen = [0u64; 256];
-    let verdict = judge(
-        sure,
-        text,
-        table,
-        start,
-        image.len(),
-        keys,
-        places,
-        &mut seen,
-    );
-    put_judged(verdict, text, table, start, keys, places, image)
+    // Every line, the first refused one first.
+    fn judge(&self, sure: bool, end: usize, labels: &[Entry]) -> Assembled
+        requires { (self.now.start ≤ end) × (sure ≡ true → all_known (lines_of self.now.text.now) ≡ true) }
+        ensures { result ≡ verdict_of (labels_in labels.now) [] self.now.start end 0 (lines_of self.now.text.now) }
+    {
+        let mut seen = Table::new();
+        let mut to = self.start;
+        let mut lines: usize = 0;
+        let mut at: usize = 0;
+        while at < self.text.len() {
+            let line = Line::new(text::end_part(self.text, at));
+            let w = line.what(self.table);
+            let n = bytes_for(true, w);
+            let room = room_check(to, n, end);
+            let a = address_of(to);
+            lines += 1;
+            if let Err(r) = line.check(sure, w, labels, &seen, a, room) {
+                return Err((r, lines));
+            }
+            seen.add(line.label(), a);
+            to += n as usize;
+            at += line.cut.end + 1;
+        }
+        Ok((lines, to))
+    }
+
+    // The bytes of all lines, none of which is refused.
+    fn put_code(&self, labels: &[Entry], image: &mut [u8]) -> usize
+        ensures { page image.new result ≡ write_on (code_of (labels_in labels.now) (address_of self.now.start) (lines_of self.now.text.now)) (page image.old self.now.start) }
+    {
+        let mut to = self.start;
+        let mut a = address_of(self.start);
+        let mut at: usize = 0;
+        while at < self.text.len() {
+            let line = Line::new(text::end_part(self.text, at));
+            let w = line.what(self.table);
+            to = put_bits(image, to, line.encoded(w, labels, a));
+            a = word::byte_sum(a, bytes_for(true, w));
+            at += line.cut.end + 1;
+        }
+        to
+    }
+
+    // Only a text that is not refused is written.
+    fn assemble_with(&self, sure: bool, labels: &[Entry], image: &mut [u8]) -> Assembled
+        requires { (self.now.start ≤ length image.old) × (sure ≡ true → all_known (lines_of self.now.text.now) ≡ true) }
+        ensures { answered result image.new ≡ assembled_with (labels_in labels.now) (lines_of self.now.text.now) self.now.start image.old }
+    {
+        let (lines, after) = self.judge(sure, image.len(), labels)?;
+        self.put_code(labels, image);
+        Ok((lines, after))
+    }
 }
 
 pub fn assemble(text: &[u8], start: usize, image: &mut [u8]) -> Assembled
     ensures { answered result image.new ≡ assembled_of text.now start image.old }
 {
     if is_outside(start, image.len()) {
-        return Assembled::Refused(Refusal::Start, 0);
+        return Err((Refusal::Start, 0));
     }
     let table = table();
-    let mut keys = [0u64; 256];
-    let mut places = [0u32; 256];
-    let found = collect(text, &table, start, &mut keys, &mut places);
-    let count = found.count;
-    assemble_with(
-        found.known,
+    let source = Source {
         text,
-        &table,
+        table: &table,
         start,
-        &keys[..count],
-        &places[..count],
-        image,
-    )
+    };
+    let found = source.collect();
+    source.assemble_with(found.known, found.labels.labels(), image)
 }

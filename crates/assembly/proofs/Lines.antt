@@ -1,5 +1,6 @@
 -- What a line that is not refused says, and its bytes.
 -- Assumes nothing.
+use Rattle.std.specs.Prelude.{Err, None, Ok, Option, Result, Some}
 use Prim.Native.Nat.{ℕ, ◌+◌, ◌*◌, ◌/◌, ◌%◌, ◌<◌}
 use mathlib.Core.Path.{◌≡◌, refl, ap}
 use mathlib.Core.Bool.{Bool, true, false, cond, ◌&&◌}
@@ -22,39 +23,38 @@ use Rattle.isa.specs.declared.Decoded.{Decoded}
 use Rattle.isa.specs.declared.Encoded.{Encoded}
 use Rattle.isa.proofs.Theorems.{bits_decode}
 use Rattle.expr.specs.Expr.{Labels}
-use Rattle.expr.specs.declared.Read.{Read as Valued}
+use Rattle.expr.specs.Expr.{Read as Valued}
 use Rattle.expr.specs.declared.Value.{Value}
 use Rattle.forms.specs.Form.{body_of, kind_shape, shape_of, is_known_as}
 use Rattle.forms.specs.Says.{bits_of, halves_to, words_to, scaled, says_of, bits_said, bits_at, bytes_in}
 use Rattle.asm.specs.Assemble.{line_value, line_bits, label_in, before, label_check, fit_check, value_check, line_check, line_bytes, value_in}
 use Rattle.forms.specs.declared.What.{What}
 use Rattle.asm.specs.declared.Refusal.{Refusal}
-use Rattle.asm.specs.declared.Checked.{Checked}
 use Rattle.assembly.specs.Assembly.{Decodes, Says}
 
 -- ---- bits of a kind: as many as its shape says, and they decode to what was said
 
 -- bits that are there take n bytes and decode to d
-Whole : Encoded → Decoded → ℕ → Type 0
-Whole (Encoded.Half h) d n = ((x : ℕ) → decode_of h x ≡ d) × (2 ≡ n)
-Whole (Encoded.Pair h x) d n = (decode_of h x ≡ d) × (4 ≡ n)
-Whole Encoded.Nothing d n = Unit {0}
+Whole : Option Encoded → Option Decoded → ℕ → Type 0
+Whole (Some (Encoded.Half h)) d n = ((x : ℕ) → decode_of h x ≡ d) × (2 ≡ n)
+Whole (Some (Encoded.Pair h x)) d n = (decode_of h x ≡ d) × (4 ≡ n)
+Whole None d n = Unit {0}
 
 -- bits that are there take n bytes
-Sized : ℕ → Encoded → Type 0
-Sized n (Encoded.Half h) = 2 ≡ n
-Sized n (Encoded.Pair h x) = 4 ≡ n
-Sized n Encoded.Nothing = Unit {0}
+Sized : ℕ → Option Encoded → Type 0
+Sized n (Some (Encoded.Half h)) = 2 ≡ n
+Sized n (Some (Encoded.Pair h x)) = 4 ≡ n
+Sized n None = Unit {0}
 
-half : (h : ℕ) → Sized 2 (Encoded.Half h)
+half : (h : ℕ) → Sized 2 (Some (Encoded.Half h))
 unfolding Sized
 half h = refl
 
-pair : (h x : ℕ) → Sized 4 (Encoded.Pair h x)
+pair : (h x : ℕ) → Sized 4 (Some (Encoded.Pair h x))
 unfolding Sized
 pair h x = refl
 
-only_sized : (t : Bool) (n : ℕ) (x : Encoded) → Sized n x → Sized n (only t x)
+only_sized : (t : Bool) (n : ℕ) (x : Option Encoded) → Sized n x → Sized n (only t x)
 unfolding Sized
 only_sized true n x q = q
 only_sized false n x q = tt
@@ -67,23 +67,23 @@ byte : (a c n : ℕ) → Sized 2 (nibs_byte a c n)
 unfolding nibs_byte
 byte a c n = only_sized (ltb n 256) 2 _ (nibs a (n / 16) c (n % 16))
 
-short : (i : Instr) → Sized 2 (encode_of i) → Whole (encode_of i) (Decoded.Short i) 2
+short : (i : Instr) → Sized 2 (encode_of i) → Whole (encode_of i) (Some (Decoded.Short i)) 2
 unfolding Sized Whole
 short i = go (encode_of i) (bits_decode i)
   where
-    go : (e : Encoded) → DecodesTo e i → Sized 2 e → Whole e (Decoded.Short i) 2
-    go (Encoded.Half h) d q = (d, q)
-    go (Encoded.Pair h x) d q = absurd (omega arith)
-    go Encoded.Nothing d q = tt
+    go : (e : Option Encoded) → DecodesTo e i → Sized 2 e → Whole e (Some (Decoded.Short i)) 2
+    go (Some (Encoded.Half h)) d q = (d, q)
+    go (Some (Encoded.Pair h x)) d q = absurd (omega arith)
+    go None d q = tt
 
-long : (i : Instr) → Sized 4 (encode_of i) → Whole (encode_of i) (Decoded.Long i) 4
+long : (i : Instr) → Sized 4 (encode_of i) → Whole (encode_of i) (Some (Decoded.Long i)) 4
 unfolding Sized Whole
 long i = go (encode_of i) (bits_decode i)
   where
-    go : (e : Encoded) → DecodesTo e i → Sized 4 e → Whole e (Decoded.Long i) 4
-    go (Encoded.Half h) d q = absurd (omega arith)
-    go (Encoded.Pair h x) d q = (d, q)
-    go Encoded.Nothing d q = tt
+    go : (e : Option Encoded) → DecodesTo e i → Sized 4 e → Whole e (Some (Decoded.Long i)) 4
+    go (Some (Encoded.Half h)) d q = absurd (omega arith)
+    go (Some (Encoded.Pair h x)) d q = (d, q)
+    go None d q = tt
 
 imm : (op : ImmOp) (c x : ℕ) → Sized 2 (encode_imm op c x)
 unfolding encode_imm nibs_signed_byte
@@ -91,7 +91,7 @@ imm ImmOp.And c x = byte _ c x
 imm ImmOp.Add c x = only_sized (fits_of 8 x) 2 _ (byte _ c _)
 imm ImmOp.Mov c x = only_sized (fits_of 8 x) 2 _ (byte _ c _)
 
-no_bits : (n : ℕ) → Whole Encoded.Nothing Decoded.Nothing n
+no_bits : (n : ℕ) → Whole None None n
 unfolding Whole
 no_bits n = tt
 
@@ -120,65 +120,65 @@ bits_said_lem (Kind.LongJump op) a x y z v = long (Instr.LongJump op (halves_to 
 -- ---- a line that is fine
 
 -- of what was checked nothing is refused
-pub record Fine (t : Labels) (s : List ℕ) (a : ByteAddr) (y : Checked) (w : What) (l : List ℕ) : Type 0 where
+pub record Fine (t : Labels) (s : List ℕ) (a : ByteAddr) (y : Result Unit Refusal) (w : What) (l : List ℕ) : Type 0 where
   pub known : is_known_as w l ≡ true
   pub value : ℤ
   pub read : ℕ
-  pub valued : line_value t (shape_of w) (body_of l) ≡ Valued.Got (Value.Is value) read
-  pub label : label_check s (label_in l) ≡ Checked.Fine
-  pub fits : fit_check (line_bits w a (body_of l) value) ≡ Checked.Fine
-  pub room : y ≡ Checked.Fine
+  pub valued : line_value t (shape_of w) (body_of l) ≡ Ok (Value.Is value, read)
+  pub label : label_check s (label_in l) ≡ Ok tt
+  pub fits : fit_check (line_bits w a (body_of l) value) ≡ Ok tt
+  pub room : y ≡ Ok tt
 
-fine_both : (x y : Checked) → before x y ≡ Checked.Fine → (x ≡ Checked.Fine) × (y ≡ Checked.Fine)
-fine_both Checked.Fine y e = (refl, e)
-fine_both (Checked.Not r) y e = let z : ◌≡◌ {A = ℕ} 0 1 = cc in absurd (omega arith)
+fine_both : (x y : Result Unit Refusal) → before x y ≡ Ok tt → (x ≡ Ok tt) × (y ≡ Ok tt)
+fine_both (Ok _) y e = (refl, e)
+fine_both (Err r) y e = let z : ◌≡◌ {A = ℕ} 0 1 = cc in absurd (omega arith)
 
-module _ (t : Labels) (s : List ℕ) (a : ByteAddr) (y : Checked) (w : What) (l : List ℕ) where
+module _ (t : Labels) (s : List ℕ) (a : ByteAddr) (y : Result Unit Refusal) (w : What) (l : List ℕ) where
   by_value : is_known_as w l ≡ true → (v : Valued) → line_value t (shape_of w) (body_of l) ≡ v
-      → value_check w a (body_of l) (label_check s (label_in l)) y v ≡ Checked.Fine → Fine t s a y w l
+      → value_check w a (body_of l) (label_check s (label_in l)) y v ≡ Ok tt → Fine t s a y w l
   unfolding value_check
-  by_value k (Valued.Not e) p q = let z : ◌≡◌ {A = ℕ} 0 1 = cc in absurd (omega arith)
-  by_value k (Valued.Got Value.Unknown n) p q = let z : ◌≡◌ {A = ℕ} 0 1 = cc in absurd (omega arith)
-  by_value k (Valued.Got Value.Large n) p q =
-      let b = (fine_both (label_check s (label_in l)) (Checked.Not Refusal.Value) q).1 in
+  by_value k (Err e) p q = let z : ◌≡◌ {A = ℕ} 0 1 = cc in absurd (omega arith)
+  by_value k (Ok (Value.Unknown, n)) p q = let z : ◌≡◌ {A = ℕ} 0 1 = cc in absurd (omega arith)
+  by_value k (Ok (Value.Large, n)) p q =
+      let b = (fine_both (label_check s (label_in l)) (Err Refusal.Value) q).1 in
       let z : ◌≡◌ {A = ℕ} 0 1 = cc in absurd (omega arith)
-  by_value k (Valued.Got (Value.Is z) n) p q =
+  by_value k (Ok (Value.Is z, n)) p q =
       let b = fine_both (label_check s (label_in l)) _ q in
       let c = fine_both (fit_check (line_bits w a (body_of l) z)) y b.1 in
       record { known = k; value = z; read = n; valued = p; label = b.0; fits = c.0; room = c.1 }
 
-  pub fine : line_check t s a y w l ≡ Checked.Fine → Fine t s a y w l
+  pub fine : line_check t s a y w l ≡ Ok tt → Fine t s a y w l
   unfolding line_check
   fine e = go (is_known_as w l) refl e
     where
       v : Valued
       v = line_value t (shape_of w) (body_of l)
 
-      go : (u : Bool) → is_known_as w l ≡ u → cond u (value_check w a (body_of l) (label_check s (label_in l)) y v) (Checked.Not Refusal.Form) ≡ Checked.Fine → Fine t s a y w l
+      go : (u : Bool) → is_known_as w l ≡ u → cond u (value_check w a (body_of l) (label_check s (label_in l)) y v) (Err Refusal.Form) ≡ Ok tt → Fine t s a y w l
       go true k q = by_value k v refl q
       go false k q = let z : ◌≡◌ {A = ℕ} 0 1 = cc in absurd (omega arith)
 
 -- ---- its bits
 
-said_size : (x : Encoded) (d : Decoded) (n : ℕ) → fit_check x ≡ Checked.Fine → Whole x d n → length (bytes_in x) ≡ n
+said_size : (x : Option Encoded) (d : Option Decoded) (n : ℕ) → fit_check x ≡ Ok tt → Whole x d n → length (bytes_in x) ≡ n
 unfolding Whole bytes_in
-said_size (Encoded.Half h) d n f q = q.1
-said_size (Encoded.Pair h y) d n f q = q.1
-said_size Encoded.Nothing d n f q = let z : ◌≡◌ {A = ℕ} 0 1 = cc in absurd (omega arith)
+said_size (Some (Encoded.Half h)) d n f q = q.1
+said_size (Some (Encoded.Pair h y)) d n f q = q.1
+said_size None d n f q = let z : ◌≡◌ {A = ℕ} 0 1 = cc in absurd (omega arith)
 
-said_decodes : (x : Encoded) (d : Decoded) (n : ℕ) → fit_check x ≡ Checked.Fine → Whole x d n → Decodes x d
+said_decodes : (x : Option Encoded) (d : Option Decoded) (n : ℕ) → fit_check x ≡ Ok tt → Whole x d n → Decodes x d
 unfolding Whole
-said_decodes (Encoded.Half h) d n f q = q.0
-said_decodes (Encoded.Pair h y) d n f q = q.0
-said_decodes Encoded.Nothing d n f q = let z : ◌≡◌ {A = ℕ} 0 1 = cc in absurd (omega arith)
+said_decodes (Some (Encoded.Half h)) d n f q = q.0
+said_decodes (Some (Encoded.Pair h y)) d n f q = q.0
+said_decodes None d n f q = let z : ◌≡◌ {A = ℕ} 0 1 = cc in absurd (omega arith)
 
-half_fits : (v : ℕ) (t : Bool) → ltb v 65536 ≡ t → fit_check (only t (Encoded.Half v)) ≡ Checked.Fine
-    → (v < 65536) × (bytes_in (only t (Encoded.Half v)) ≡ v / 256 ∷ v % 256 ∷ [])
+half_fits : (v : ℕ) (t : Bool) → ltb v 65536 ≡ t → fit_check (only t (Some (Encoded.Half v))) ≡ Ok tt
+    → (v < 65536) × (bytes_in (only t (Some (Encoded.Half v))) ≡ v / 256 ∷ v % 256 ∷ [])
 unfolding bytes_in
 half_fits v true e f = (ltb-true v 65536 e, refl)
 half_fits v false e f = let z : ◌≡◌ {A = ℕ} 0 1 = cc in absurd (omega arith)
 
-word_bytes : (v : ℕ) → bytes_in (Encoded.Pair (v / 65536) (v % 65536)) ≡ v / 16777216 ∷ v / 65536 % 256 ∷ v / 256 % 256 ∷ v % 256 ∷ []
+word_bytes : (v : ℕ) → bytes_in (Some (Encoded.Pair (v / 65536) (v % 65536))) ≡ v / 16777216 ∷ v / 65536 % 256 ∷ v / 256 % 256 ∷ v % 256 ∷ []
 unfolding bytes_in
 word_bytes v =
     let p : v / 65536 / 256 ≡ v / 16777216 = omega arith in
@@ -186,19 +186,19 @@ word_bytes v =
     let r : v % 65536 % 256 ≡ v % 256 = omega arith in
     rw (p, q, r)
 
-pub bits_size : (w : What) (a : ByteAddr) (b : List ℕ) (z : ℤ) → fit_check (line_bits w a b z) ≡ Checked.Fine → length (bytes_in (line_bits w a b z)) ≡ (shape_of w).size
+pub bits_size : (w : What) (a : ByteAddr) (b : List ℕ) (z : ℤ) → fit_check (line_bits w a b z) ≡ Ok tt → length (bytes_in (line_bits w a b z)) ≡ (shape_of w).size
 unfolding line_bits bits_at shape_of
 bits_size (What.Code k) a b z f = said_size _ _ _ f (bits_said_lem k a _ _ _ _)
 bits_size What.Half a b z f = ap length (half_fits (bits_of z) _ refl f).1
 bits_size What.Word a b z f = ap length (word_bytes (bits_of z))
 
-pub bits_say : (w : What) (a : ByteAddr) (b : List ℕ) (z : ℤ) → bits_of z < 4294967296 → fit_check (line_bits w a b z) ≡ Checked.Fine → Says w a b z (line_bits w a b z)
+pub bits_say : (w : What) (a : ByteAddr) (b : List ℕ) (z : ℤ) → bits_of z < 4294967296 → fit_check (line_bits w a b z) ≡ Ok tt → Says w a b z (line_bits w a b z)
 unfolding line_bits bits_at shape_of
 bits_say (What.Code k) a b z h f = said_decodes _ _ _ f (bits_said_lem k a _ _ _ _)
 bits_say What.Half a b z h f = half_fits (bits_of z) _ refl f
 bits_say What.Word a b z h f = (h, word_bytes (bits_of z))
 
-pub line_size_lem : (t : Labels) (s : List ℕ) (a : ByteAddr) (y : Checked) (w : What) (l : List ℕ) → line_check t s a y w l ≡ Checked.Fine
+pub line_size_lem : (t : Labels) (s : List ℕ) (a : ByteAddr) (y : Result Unit Refusal) (w : What) (l : List ℕ) → line_check t s a y w l ≡ Ok tt
     → length (line_bytes t a w l) ≡ (shape_of w).size
 unfolding line_bytes value_in
 line_size_lem t s a y w l e = let f = fine t s a y w l e in rw f.valued (bits_size w a (body_of l) f.value f.fits)

@@ -1,5 +1,6 @@
 -- Of a line's faults the one with the lowest number is told.
 -- Assumes nothing.
+use Rattle.std.specs.Prelude.{Err, None, Ok, Option, Result, Some}
 use Prim.Native.Nat.{ℕ, suc, ◌+◌, ◌≤◌, ◌<◌}
 use mathlib.Core.Path.{◌≡◌, refl, sym, ap, ◌∙◌}
 use mathlib.Core.Bool.{Bool, true, false, cond, not, ◌&&◌}
@@ -11,49 +12,48 @@ use Rattle.word.specs.declared.ByteAddr.{ByteAddr}
 use Rattle.isa.specs.Statements.{has_bits}
 use Rattle.isa.specs.declared.Encoded.{Encoded}
 use Rattle.expr.specs.Expr.{Labels}
-use Rattle.expr.specs.declared.Read.{Read as Valued}
+use Rattle.expr.specs.Expr.{Read as Valued}
 use Rattle.expr.specs.declared.Value.{Value}
 use Rattle.forms.specs.Form.{body_of, shape_of, is_known_as}
 use Rattle.asm.specs.Assemble.{line_value, line_bits, label_in, is_set, has_room, number_of, before, refused_if, label_check, fit_check, value_check, line_check, room_check}
 use Rattle.forms.specs.declared.What.{What}
 use Rattle.asm.specs.declared.Refusal.{Refusal}
-use Rattle.asm.specs.declared.Checked.{Checked}
 use Rattle.assembly.specs.Assembly.{is_deep, is_unknown, is_unfit, faults_of, Lowest}
 
 -- ---- a line's check is the first of its faults
 
 -- one after the other, by their numbers: from 31 on, and all
-later_of : (Refusal → Bool) → Checked
+later_of : (Refusal → Bool) → Result Unit Refusal
 later_of f =
     before (refused_if (f Refusal.Deep) Refusal.Deep) (before (refused_if (f Refusal.Label) Refusal.Label)
     (before (refused_if (f Refusal.Twice) Refusal.Twice) (before (refused_if (f Refusal.Many) Refusal.Many)
     (before (refused_if (f Refusal.Value) Refusal.Value) (refused_if (f Refusal.Room) Refusal.Room)))))
 
-first_of : (Refusal → Bool) → Checked
+first_of : (Refusal → Bool) → Result Unit Refusal
 first_of f = before (refused_if (f Refusal.Form) Refusal.Form) (later_of f)
 
-fit_first : (x : Encoded) → fit_check x ≡ refused_if (not (has_bits x)) Refusal.Value
-fit_first (Encoded.Half h) = refl
-fit_first (Encoded.Pair h s) = refl
-fit_first Encoded.Nothing = refl
+fit_first : (x : Option Encoded) → fit_check x ≡ refused_if (not (has_bits x)) Refusal.Value
+fit_first (Some (Encoded.Half h)) = refl
+fit_first (Some (Encoded.Pair h s)) = refl
+fit_first None = refl
 
-value_first : (w : What) (a : ByteAddr) (b : List ℕ) (x y : Checked) (v : Valued)
+value_first : (w : What) (a : ByteAddr) (b : List ℕ) (x y : Result Unit Refusal) (v : Valued)
     → value_check w a b x y v
     ≡ before (refused_if (is_deep v) Refusal.Deep) (before (refused_if (is_unknown v) Refusal.Label) (before x (before (refused_if (is_unfit w a b v) Refusal.Value) y)))
 unfolding value_check
-value_first w a b x y (Valued.Not e) = refl
-value_first w a b x y (Valued.Got Value.Unknown n) = refl
-value_first w a b x y (Valued.Got Value.Large n) = refl
-value_first w a b x y (Valued.Got (Value.Is z) n) = ap (λ (c : Checked). before x (before c y)) (fit_first (line_bits w a b z))
+value_first w a b x y (Err e) = refl
+value_first w a b x y (Ok (Value.Unknown, n)) = refl
+value_first w a b x y (Ok (Value.Large, n)) = refl
+value_first w a b x y (Ok (Value.Is z, n)) = ap (λ (c : Result Unit Refusal). before x (before c y)) (fit_first (line_bits w a b z))
 
-label_first : (s : List ℕ) (k : ℕ) (y : Checked)
+label_first : (s : List ℕ) (k : ℕ) (y : Result Unit Refusal)
     → before (label_check s k) y
     ≡ before (refused_if (not (eqb k 0) && is_set s k) Refusal.Twice) (before (refused_if (not (eqb k 0) && not (has_room s)) Refusal.Many) y)
 unfolding label_check
 label_first s k y = go (eqb k 0) (is_set s k)
   where
     go : (u v : Bool)
-        → before (cond u Checked.Fine (before (refused_if v Refusal.Twice) (refused_if (not (has_room s)) Refusal.Many))) y
+        → before (cond u (Ok tt) (before (refused_if v Refusal.Twice) (refused_if (not (has_room s)) Refusal.Many))) y
         ≡ before (refused_if (not u && v) Refusal.Twice) (before (refused_if (not u && not (has_room s)) Refusal.Many) y)
     go true v = refl
     go false true = refl
@@ -64,13 +64,13 @@ module _ (t : Labels) (s : List ℕ) (a : ByteAddr) (p n m : ℕ) (w : What) (l 
   unfolding line_check room_check first_of later_of
   check_first = go (is_known_as w l)
     where
-      y : Checked
+      y : Result Unit Refusal
       y = refused_if (ltb m (p + n)) Refusal.Room
 
       v : Valued
       v = line_value t (shape_of w) (body_of l)
 
-      go : (u : Bool) → cond u (value_check w a (body_of l) (label_check s (label_in l)) y v) (Checked.Not Refusal.Form)
+      go : (u : Bool) → cond u (value_check w a (body_of l) (label_check s (label_in l)) y v) (Err Refusal.Form)
           ≡ before (refused_if (not u) Refusal.Form) (later_of (faults_of t s a p n m w l))
       go true = value_first w a (body_of l) (label_check s (label_in l)) y v ∙ rw (label_first s (label_in l))
       go false = refl
@@ -118,7 +118,7 @@ module _ (f : Refusal → Bool) where
           let c : q ≡ r = sym (named_by q) ∙ ap refusal_at b ∙ named_by r in
           ap f c ∙ e
 
-  step : (r : Refusal) (rest : Checked) → NoneBelow (number_of r) → (NoneBelow (suc (number_of r)) → Lowest f rest) → Lowest f (before (refused_if (f r) r) rest)
+  step : (r : Refusal) (rest : Result Unit Refusal) → NoneBelow (number_of r) → (NoneBelow (suc (number_of r)) → Lowest f rest) → Lowest f (before (refused_if (f r) r) rest)
   step r rest h k = go (f r) refl
     where
       go : (u : Bool) → f r ≡ u → Lowest f (before (refused_if u r) rest)

@@ -1,7 +1,8 @@
 -- The lines of a text, one after the other.
 -- Assumes nothing.
+use Rattle.std.specs.Prelude.{Err, Ok, Result}
 use Prim.Native.Nat.{ℕ, suc, ◌+◌, ◌%◌, ◌≤◌, ◌<◌}
-use mathlib.Core.Path.{◌≡◌, refl, ap, ◌∙◌}
+use mathlib.Core.Path.{◌≡◌, refl, sym, ap, ◌∙◌}
 use mathlib.Core.Bool.{Bool, true, false, cond, ◌||◌}
 use mathlib.Core.List.{List, [], ◌∷◌}
 use native.Mathlib.Omega.{arith}
@@ -15,10 +16,10 @@ use Rattle.expr.specs.Expr.{Labels}
 use Rattle.forms.specs.Form.{lines_of, what_in, shape_of}
 use Rattle.asm.specs.Assemble.{address_of, label_in, with_name, refused_if, room_check, go_on, verdict_of, code_of, is_outside, text_labels, verdict_in}
 use Rattle.asm.specs.declared.Refusal.{Refusal}
-use Rattle.asm.specs.declared.Checked.{Checked}
-use Rattle.asm.specs.declared.Assembled.{Assembled}
+use Rattle.asm.specs.Assemble.{Assembled}
+use Rattle.asm.proofs.Laws.{refused_same}
 use Rattle.assembly.specs.Assembly.{check_at, AllFine, FineThenNot, Told}
-use Rattle.assembly.proofs.Lines.{Fine, fine, line_size_lem}
+use Rattle.assembly.proofs.Lines.{fine, line_size_lem}
 
 pub address_on : (p n : ℕ) → byte_sum (address_of p) n ≡ address_of (p + n)
 address_on p n =
@@ -27,22 +28,22 @@ address_on p n =
 
 -- ---- none refused
 
-done_fine : (c : Checked) (j i e : ℕ) (rest : Assembled) → go_on c j rest ≡ Assembled.Done i e → (c ≡ Checked.Fine) × (rest ≡ Assembled.Done i e)
-done_fine Checked.Fine j i e rest q = (refl, q)
-done_fine (Checked.Not r) j i e rest q = let z : ◌≡◌ {A = ℕ} 0 1 = cc in absurd (omega arith)
+done_fine : (c : Result Unit Refusal) (j i e : ℕ) (rest : Assembled) → go_on c j rest ≡ Ok (i, e) → (c ≡ Ok tt) × (rest ≡ Ok (i, e))
+done_fine (Ok _) j i e rest q = (refl, q)
+done_fine (Err r) j i e rest q = let z : ◌≡◌ {A = ℕ} 0 1 = cc in absurd (omega arith)
 
-pub all_fine : (t : Labels) (s : List ℕ) (p n j i e : ℕ) (ls : List (List ℕ)) → verdict_of t s p n j ls ≡ Assembled.Done i e → AllFine t s p n ls
+pub all_fine : (t : Labels) (s : List ℕ) (p n j i e : ℕ) (ls : List (List ℕ)) → verdict_of t s p n j ls ≡ Ok (i, e) → AllFine t s p n ls
 unfolding verdict_of
 all_fine t s p n j i e [] q = tt
 all_fine t s p n j i e (l ∷ r) q =
     let d = done_fine (check_at t s p n l) (suc j) i e _ q in
     (d.0, all_fine t (with_name s (label_in l)) (p + (shape_of (what_in l)).size) n (suc j) i e r d.1)
 
-room_for : (p n m : ℕ) → room_check p n m ≡ Checked.Fine → p + n ≤ m
+room_for : (p n m : ℕ) → room_check p n m ≡ Ok tt → p + n ≤ m
 unfolding room_check
 room_for p n m e = go (ltb m (p + n)) refl e
   where
-    go : (u : Bool) → ltb m (p + n) ≡ u → refused_if u Refusal.Room ≡ Checked.Fine → p + n ≤ m
+    go : (u : Bool) → ltb m (p + n) ≡ u → refused_if u Refusal.Room ≡ Ok tt → p + n ≤ m
     go true f q = let z : ◌≡◌ {A = ℕ} 0 1 = cc in absurd (omega arith)
     go false f q = ltb-false m (p + n) f
 
@@ -50,7 +51,7 @@ code_none : (t : Labels) (a : ByteAddr) → length (code_of t a []) ≡ 0
 unfolding code_of
 code_none t a = refl
 
-code_step : (t : Labels) (s : List ℕ) (p n : ℕ) (l : List ℕ) (r : List (List ℕ)) → check_at t s p n l ≡ Checked.Fine
+code_step : (t : Labels) (s : List ℕ) (p n : ℕ) (l : List ℕ) (r : List (List ℕ)) → check_at t s p n l ≡ Ok tt
     → length (code_of t (address_of p) (l ∷ r)) ≡ (shape_of (what_in l)).size + length (code_of t (address_of (p + (shape_of (what_in l)).size)) r)
 unfolding code_of
 code_step t s p n l r e = rw (length-append, line_size_lem t s (address_of p) (room_check p (shape_of (what_in l)).size n) (what_in l) l e, address_on)
@@ -64,7 +65,7 @@ code_inside t s p n (l ∷ r) h f =
     rw (code_step t s p n l r f.0) (omega arith)
 
 pub fine_done : (t : Labels) (s : List ℕ) (p n j : ℕ) (ls : List (List ℕ)) → AllFine t s p n ls
-    → verdict_of t s p n j ls ≡ Assembled.Done (j + length ls) (p + length (code_of t (address_of p) ls))
+    → verdict_of t s p n j ls ≡ Ok (j + length ls, p + length (code_of t (address_of p) ls))
 unfolding verdict_of
 fine_done t s p n j [] f =
     let a : j ≡ j + 0 = omega arith in
@@ -78,7 +79,7 @@ fine_done t s p n j (l ∷ r) f =
 
 -- ---- one refused
 
-pub first_not : (t : Labels) (s : List ℕ) (p n j i : ℕ) (q : Refusal) (ls : List (List ℕ)) → verdict_of t s p n j ls ≡ Assembled.Refused q i
+pub first_not : (t : Labels) (s : List ℕ) (p n j i : ℕ) (q : Refusal) (ls : List (List ℕ)) → verdict_of t s p n j ls ≡ Err (q, i)
     → (k : ℕ) × (i ≡ suc (j + k)) × FineThenNot t s p n k q ls
 unfolding verdict_of
 first_not t s p n j i q [] e = let z : ◌≡◌ {A = ℕ} 0 1 = cc in absurd (omega arith)
@@ -87,14 +88,13 @@ first_not t s p n j i q (l ∷ r) e = go (check_at t s p n l) refl e (first_not 
     rest : Assembled
     rest = verdict_of t (with_name s (label_in l)) (p + (shape_of (what_in l)).size) n (suc j) r
 
-    go : (c : Checked) → check_at t s p n l ≡ c → go_on c (suc j) rest ≡ Assembled.Refused q i
-        → (rest ≡ Assembled.Refused q i → (k : ℕ) × (i ≡ suc (suc j + k)) × FineThenNot t (with_name s (label_in l)) (p + (shape_of (what_in l)).size) n k q r)
+    go : (c : Result Unit Refusal) → check_at t s p n l ≡ c → go_on c (suc j) rest ≡ Err (q, i)
+        → (rest ≡ Err (q, i) → (k : ℕ) × (i ≡ suc (suc j + k)) × FineThenNot t (with_name s (label_in l)) (p + (shape_of (what_in l)).size) n k q r)
         → (k : ℕ) × (i ≡ suc (j + k)) × FineThenNot t s p n k q (l ∷ r)
-    go Checked.Fine c e f = let g = f e in let h = g.1 in (suc g.0, omega arith, (c, g.2))
-    go (Checked.Not x) c e f =
-        let a : x ≡ q = cc in
-        let b : suc j ≡ i = cc in
-        (0, omega arith, c ∙ ap Checked.Not a)
+    go (Ok _) c e f = let g = f e in let h = g.1 in (suc g.0, omega arith, (c, g.2))
+    go (Err x) c e f =
+        let a = refused_same x q (suc j) i e in
+        (0, omega (arith, a.1), c ∙ ap Err a.0)
 
 -- ---- the image
 
@@ -115,21 +115,21 @@ start_in s n e = go (eqb (s % 2) 1) (ltb n s) refl e
 
 module _ (x : List ℕ) (s n i : ℕ) where
   abbrev verdict : Bool → Assembled
-  verdict u = cond u (Assembled.Refused Refusal.Start 0) (verdict_of (text_labels x s) [] s n 0 (lines_of x))
+  verdict u = cond u (Err (Refusal.Start, 0)) (verdict_of (text_labels x s) [] s n 0 (lines_of x))
 
-  pub done_inside : (e : ℕ) → verdict_in x s n ≡ Assembled.Done i e
-      → (is_outside s n ≡ false) × (verdict_of (text_labels x s) [] s n 0 (lines_of x) ≡ Assembled.Done i e)
+  pub done_inside : (e : ℕ) → verdict_in x s n ≡ Ok (i, e)
+      → (is_outside s n ≡ false) × (verdict_of (text_labels x s) [] s n 0 (lines_of x) ≡ Ok (i, e))
   unfolding verdict_in
   done_inside e = go (is_outside s n)
     where
-      go : (u : Bool) → verdict u ≡ Assembled.Done i e → (u ≡ false) × (verdict_of (text_labels x s) [] s n 0 (lines_of x) ≡ Assembled.Done i e)
+      go : (u : Bool) → verdict u ≡ Ok (i, e) → (u ≡ false) × (verdict_of (text_labels x s) [] s n 0 (lines_of x) ≡ Ok (i, e))
       go true q = let z : ◌≡◌ {A = ℕ} 0 1 = cc in absurd (omega arith)
       go false q = (refl, q)
 
-  pub refused_told : (q : Refusal) → verdict_in x s n ≡ Assembled.Refused q i → Told (is_outside s n) (text_labels x s) s n q i (lines_of x)
+  pub refused_told : (q : Refusal) → verdict_in x s n ≡ Err (q, i) → Told (is_outside s n) (text_labels x s) s n q i (lines_of x)
   unfolding verdict_in
   refused_told q = go (is_outside s n)
     where
-      go : (u : Bool) → verdict u ≡ Assembled.Refused q i → Told u (text_labels x s) s n q i (lines_of x)
-      go true e = (cc, cc)
+      go : (u : Bool) → verdict u ≡ Err (q, i) → Told u (text_labels x s) s n q i (lines_of x)
+      go true e = let p = refused_same Refusal.Start q 0 i e in (sym p.0, sym p.1)
       go false e = let f = first_not (text_labels x s) [] s n 0 i q (lines_of x) e in let g = f.1 in (f.0, omega arith, f.2)

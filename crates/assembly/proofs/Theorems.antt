@@ -1,5 +1,6 @@
 -- The theorems of this crate, each with its statement; read this file alone with specs/. The proofs are in the files that it cites.
 -- Assumes nothing.
+use Rattle.std.specs.Prelude.{Err, Ok, Result}
 use Prim.Native.Nat.{ℕ, ◌+◌, ◌≤◌, ◌<◌}
 use mathlib.Core.Path.{◌≡◌, sym, ap, ◌∙◌}
 use mathlib.Core.Bool.{true, false}
@@ -14,15 +15,15 @@ use Rattle.text.specs.Pages.{Page}
 use Rattle.text.proofs.Pages.{written_at}
 use Rattle.expr.specs.Expr.{Labels, none, meaning}
 use Rattle.expr.specs.Value.{signed_word}
-use Rattle.expr.specs.declared.Read.{Read as Valued}
 use Rattle.expr.specs.declared.Value.{Value}
 use Rattle.forms.specs.Form.{lines_of, body_of, shape_of, is_known_as}
 use Rattle.forms.specs.Says.{bytes_in}
 use Rattle.asm.specs.Assemble.{address_of, line_value, line_bits, is_set, labels_of, reply_of, line_of, end_of, line_check, room_check, value_in, line_bytes, is_outside, text_labels, Answered, answered, verdict_in, assembled_of}
 use Rattle.forms.specs.declared.What.{What}
 use Rattle.asm.specs.declared.Refusal.{Refusal}
-use Rattle.asm.specs.declared.Checked.{Checked}
-use Rattle.asm.specs.declared.Assembled.{Assembled}
+use Rattle.expr.proofs.Laws.{got_same}
+use Rattle.asm.specs.Assemble.{Assembled}
+use Rattle.asm.proofs.Laws.{done_same}
 use Rattle.assembly.specs.Assembly.{Says, faults_of, Lowest, AllFine, Told, text_code, first_at}
 use Rattle.assembly.proofs.Values.{in_32_bits}
 use Rattle.assembly.proofs.Lines.{Fine, fine, bits_say, line_size_lem}
@@ -31,22 +32,23 @@ use Rattle.assembly.proofs.Order.{lowest_told}
 use Rattle.assembly.proofs.Labels.{few_labels, first_written}
 
 -- 1. A line that is not refused has a value ..
-module _ (t : Labels) (s : List ℕ) (a : ByteAddr) (y : Checked) (w : What) (l : List ℕ) (ok : line_check t s a y w l ≡ Checked.Fine) where
+module _ (t : Labels) (s : List ℕ) (a : ByteAddr) (y : Result Unit Refusal) (w : What) (l : List ℕ) (ok : line_check t s a y w l ≡ Ok tt) where
   f : Fine t s a y w l
   f = fine t s a y w l ok
 
-  pub line_has_value : (z : ℤ) × (n : ℕ) × line_value t (shape_of w) (body_of l) ≡ Valued.Got (Value.Is z) n
+  pub line_has_value : (z : ℤ) × (n : ℕ) × line_value t (shape_of w) (body_of l) ≡ Ok (Value.Is z, n)
   line_has_value = (f.value, f.read, f.valued)
 
   -- .. and bits that say what it says with that value: they decode to its instruction, or are its value, big-endian ..
-  pub line_says : (z : ℤ) (n : ℕ) → line_value t (shape_of w) (body_of l) ≡ Valued.Got (Value.Is z) n → Says w a (body_of l) z (line_bits w a (body_of l) z)
+  pub line_says : (z : ℤ) (n : ℕ) → line_value t (shape_of w) (body_of l) ≡ Ok (Value.Is z, n) → Says w a (body_of l) z (line_bits w a (body_of l) z)
   line_says z n e =
       let v = f.valued in
+      let p = (got_same (Value.Is f.value) (Value.Is z) f.read n (sym v ∙ e)).0 in
       let q : f.value ≡ z = cc in
       bits_say w a (body_of l) z (in_32_bits t (shape_of w) (body_of l) z n e) (rw q at f.fits)
 
   -- .. these are its bytes ..
-  pub line_bytes_lem : (z : ℤ) (n : ℕ) → line_value t (shape_of w) (body_of l) ≡ Valued.Got (Value.Is z) n → line_bytes t a w l ≡ bytes_in (line_bits w a (body_of l) z)
+  pub line_bytes_lem : (z : ℤ) (n : ℕ) → line_value t (shape_of w) (body_of l) ≡ Ok (Value.Is z, n) → line_bytes t a w l ≡ bytes_in (line_bits w a (body_of l) z)
   unfolding line_bytes value_in
   line_bytes_lem z n e = rw e
 
@@ -57,15 +59,15 @@ module _ (t : Labels) (s : List ℕ) (a : ByteAddr) (y : Checked) (w : What) (l 
 -- 2. A text is assembled if its start is even and inside the image and each line is fine at its place ..
 module _ (x : List ℕ) (s : ℕ) (m : List ℕ) where
   pub fine_assembles : is_outside s (length m) ≡ false → AllFine (text_labels x s) [] s (length m) (lines_of x)
-      → (assembled_of x s m).assembled ≡ Assembled.Done (length (lines_of x)) (s + length (text_code x s))
+      → (assembled_of x s m).assembled ≡ Ok (length (lines_of x), s + length (text_code x s))
   unfolding assembled_of verdict_in
   fine_assembles h f =
       let e : 0 + length (lines_of x) ≡ length (lines_of x) = omega arith in
       rw h (fine_done (text_labels x s) [] s (length m) 0 (lines_of x) f ∙ rw e)
 
   -- .. and only then. What is answered is the number of lines and the address after the last byte, which is in the image ..
-  module _ (i e : ℕ) (done : (assembled_of x s m).assembled ≡ Assembled.Done i e) where
-    judged : verdict_in x s (length m) ≡ Assembled.Done i e
+  module _ (i e : ℕ) (done : (assembled_of x s m).assembled ≡ Ok (i, e)) where
+    judged : verdict_in x s (length m) ≡ Ok (i, e)
     unfolding assembled_of
     judged = done
 
@@ -76,10 +78,10 @@ module _ (x : List ℕ) (s : ℕ) (m : List ℕ) where
     lines_fine = all_fine (text_labels x s) [] s (length m) 0 i e (lines_of x) (done_inside x s (length m) i e judged).1
 
     pub lines_counted : i ≡ length (lines_of x)
-    lines_counted = let d = fine_assembles start_inside lines_fine in cc
+    lines_counted = (done_same i e _ _ (sym done ∙ fine_assembles start_inside lines_fine)).0
 
     pub ends_after_code : e ≡ s + length (text_code x s)
-    ends_after_code = let d = fine_assembles start_inside lines_fine in cc
+    ends_after_code = (done_same i e _ _ (sym done ∙ fine_assembles start_inside lines_fine)).1
 
     code_in : s + length (text_code x s) ≤ length m
     code_in = code_inside (text_labels x s) [] s (length m) (lines_of x) (start_in s (length m) start_inside) lines_fine
@@ -102,7 +104,7 @@ module _ (x : List ℕ) (s : ℕ) (m : List ℕ) where
     image_length = rw image_written (length-sets m s (text_code x s))
 
   -- 3. A refusal leaves the image, and tells of a start that is odd or past the image, with line 0, or of the first line that is not fine, as that line's check does.
-  module _ (r : Refusal) (i : ℕ) (no : (assembled_of x s m).assembled ≡ Assembled.Refused r i) where
+  module _ (r : Refusal) (i : ℕ) (no : (assembled_of x s m).assembled ≡ Err (r, i)) where
     pub refusal_leaves : (assembled_of x s m).image ≡ m
     unfolding assembled_of
     refusal_leaves = rw no
@@ -117,8 +119,8 @@ pub lowest_fault : (t : Labels) (s : List ℕ) (a : ByteAddr) (p n m : ℕ) (w :
 lowest_fault = lowest_told
 
 -- .. so unknown form before all others, whatever else.
-pub form_first : (t : Labels) (s : List ℕ) (a : ByteAddr) (y : Checked) (w : What) (l : List ℕ) → is_known_as w l ≡ false
-    → line_check t s a y w l ≡ Checked.Not Refusal.Form
+pub form_first : (t : Labels) (s : List ℕ) (a : ByteAddr) (y : Result Unit Refusal) (w : What) (l : List ℕ) → is_known_as w l ≡ false
+    → line_check t s a y w l ≡ Err Refusal.Form
 unfolding line_check
 form_first t s a y w l e = rw e
 

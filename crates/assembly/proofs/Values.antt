@@ -1,5 +1,6 @@
 -- Values of expressions, as bits, have 32 of them.
 -- Assumes nothing.
+use Rattle.std.specs.Prelude.{None, Option, Some, ℕ, Ok, Err}
 use Prim.Native.Nat.{ℕ, zero, suc, ◌+◌, ◌-◌, ◌<◌}
 use mathlib.Core.Path.{◌≡◌, refl, subst}
 use mathlib.Core.Bool.{Bool, true, false, cond, ◌||◌}
@@ -11,10 +12,9 @@ use lib.ListN.{length, get_or, take, drop}
 use lib.Signed.{lt_z}
 use borrow.Author.Tests.{ltb-true, ltb-false}
 use Rattle.text.specs.Digits.{digits_read, leading_zero}
-use Rattle.text.specs.declared.Read.{Read as Digits}
 use Rattle.expr.specs.Value.{fitted, applied, combined, signed_word, written}
 use Rattle.expr.specs.Expr.{Labels, is_letter, run_of, key_of, index_of, meaning, onward, counted, is_hex, word_read, leaf_of, joined_of, chain_of, items_of, adds, multiplies, sign_of, signed_of, closed_of, plain_with, operand_with, product_with, sum_with, inside_of, sum_of, value_of}
-use Rattle.expr.specs.declared.Read.{Read as Valued}
+use Rattle.expr.specs.Expr.{Read as Valued}
 use Rattle.expr.specs.declared.Value.{Value}
 use Rattle.expr.specs.declared.Fault.{Fault}
 use Rattle.forms.specs.Form.{field_at}
@@ -30,8 +30,8 @@ data Small : Value → Type 0 where
   unknown : Small Value.Unknown
 
 data Read : Valued → Type 0 where
-  got : {v : Value} {n : ℕ} → Small v → Read (Valued.Got v n)
-  not : {e : Fault} → Read (Valued.Not e)
+  got : {v : Value} {n : ℕ} → Small v → Read (Ok (v, n))
+  not : {e : Fault} → Read (Err e)
 
 pick : (u : Bool) {a b : Value} → Small a → Small b → Small (cond u a b)
 pick true p q = p
@@ -85,28 +85,28 @@ word_small n = go (ltb n 2147483648) refl
 
 onward_small : (r : Valued) (f : Value → ℕ → Valued) → Read r → ((v : Value) (n : ℕ) → Small v → Read (f v n)) → Read (onward r f)
 unfolding onward
-onward_small (Valued.Got v n) f (got p) k = k v n p
-onward_small (Valued.Not e) f p k = not
+onward_small (Ok (v, n)) f (got p) k = k v n p
+onward_small (Err e) f p k = not
 
-counted_small : (n : ℕ) (d : Digits) → Read (counted n d)
+counted_small : (n : ℕ) (d : Option ℕ) → Read (counted n d)
 unfolding counted written
-counted_small n (Digits.Number v) = got (low v)
-counted_small n Digits.Nothing = not
+counted_small n (Some v) = got (low v)
+counted_small n None = not
 
 joined_small : (c : ℕ) (v : Value) (r : Valued) → Read (joined_of c v r)
 unfolding joined_of
-joined_small c v (Valued.Got w n) = got (combined_small c v w)
-joined_small c v (Valued.Not e) = not
+joined_small c v (Ok (w, n)) = got (combined_small c v w)
+joined_small c v (Err e) = not
 
 signed_small : (k : ℕ) (r : Valued) → Read r → Read (signed_of k r)
 unfolding signed_of
-signed_small k (Valued.Got v n) p = either (eqb k 0) p (got (combined_small 45 (Value.Is (pos 0)) v))
-signed_small k (Valued.Not e) p = not
+signed_small k (Ok (v, n)) p = either (eqb k 0) p (got (combined_small 45 (Value.Is (pos 0)) v))
+signed_small k (Err e) p = not
 
 closed_small : (s : List ℕ) (r : Valued) → Read r → Read (closed_of s r)
 unfolding closed_of
-closed_small s (Valued.Got v n) (got p) = either (eqb (get_or s n 0) 41) (got p) not
-closed_small s (Valued.Not e) p = not
+closed_small s (Ok (v, n)) (got p) = either (eqb (get_or s n 0) 41) (got p) not
+closed_small s (Err e) p = not
 
 module _ (t : Labels) where
   leaf_small : (s : List ℕ) → Read (leaf_of t s)
@@ -162,8 +162,8 @@ module _ (t : Labels) where
   unfolding line_value
   line_small o b = sort_small o.first (field_at 2 b) _ (sort_small o.second (field_at 3 b) zero_read (got (below 0 (omega arith))))
 
-value_of_lem : {z : ℤ} {n : ℕ} → Read (Valued.Got (Value.Is z) n) → bits_of z < 4294967296
+value_of_lem : {z : ℤ} {n : ℕ} → Read (Ok (Value.Is z, n)) → bits_of z < 4294967296
 value_of_lem (got (is h)) = h
 
-pub in_32_bits : (t : Labels) (o : Shape) (b : List ℕ) (z : ℤ) (n : ℕ) → line_value t o b ≡ Valued.Got (Value.Is z) n → bits_of z < 4294967296
+pub in_32_bits : (t : Labels) (o : Shape) (b : List ℕ) (z : ℤ) (n : ℕ) → line_value t o b ≡ Ok (Value.Is z, n) → bits_of z < 4294967296
 in_32_bits t o b z n e = value_of_lem (subst Read e (line_small t o b))

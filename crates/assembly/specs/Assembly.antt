@@ -1,6 +1,6 @@
 -- Words that the theorems on the assembler are stated in (proofs/Theorems.antt has the statements).
 -- Assumes nothing.
-use Rattle.std.specs.Prelude.{ℕ, zero, suc, ◌+◌, ◌/◌, ◌%◌, ◌<◌, ◌≡◌, Bool, true, false, cond, not, ◌&&◌, List, [], ◌∷◌, ltb, eqb, ℤ, get_or}
+use Rattle.std.specs.Prelude.{ℕ, zero, suc, ◌+◌, ◌/◌, ◌%◌, ◌<◌, ◌≡◌, Bool, true, false, cond, not, ◌&&◌, List, [], ◌∷◌, ltb, eqb, ℤ, get_or, Err, None, Ok, Option, Result, Some}
 use Rattle.word.specs.declared.ByteAddr.{ByteAddr}
 use Rattle.isa.specs.Decode.{decode_of}
 use Rattle.isa.specs.Statements.{has_bits}
@@ -8,30 +8,29 @@ use Rattle.isa.specs.declared.Kind.{Kind}
 use Rattle.isa.specs.declared.Decoded.{Decoded}
 use Rattle.isa.specs.declared.Encoded.{Encoded}
 use Rattle.expr.specs.Expr.{Labels, index_of}
-use Rattle.expr.specs.declared.Read.{Read as Valued}
+use Rattle.expr.specs.Expr.{Read as Valued}
 use Rattle.expr.specs.declared.Value.{Value}
 use Rattle.forms.specs.Form.{lines_of, body_of, field_at, what_in, kind_shape, shape_of, number_at, is_known_as, is_known}
 use Rattle.forms.specs.Says.{bits_of, says_of, bytes_in}
 use Rattle.asm.specs.Assemble.{address_of, line_value, line_bits, label_in, is_set, has_room, with_name, label_for, bytes_for, number_of, line_check, room_check, code_of, text_labels}
 use Rattle.forms.specs.declared.What.{What}
 use Rattle.asm.specs.declared.Refusal.{Refusal}
-use Rattle.asm.specs.declared.Checked.{Checked}
 
 -- ---- a line
 
 -- the instruction of kind k that a line without its newline says at a, with the value z
-abbrev pub said_by : Kind → ByteAddr → List ℕ → ℤ → Decoded
+abbrev pub said_by : Kind → ByteAddr → List ℕ → ℤ → Option Decoded
 said_by k a b z =
     says_of k a (number_at (kind_shape k).first (field_at 2 b)) (number_at (kind_shape k).second (field_at 3 b)) (number_at (kind_shape k).third (field_at 4 b)) (bits_of z)
 
 -- there are bits, and they decode to d, whatever half follows a short one
-abbrev pub Decodes : Encoded → Decoded → Type 0
-Decodes (Encoded.Half h) d = (x : ℕ) → decode_of h x ≡ d
-Decodes (Encoded.Pair h x) d = decode_of h x ≡ d
-Decodes Encoded.Nothing d = ⊥
+abbrev pub Decodes : Option Encoded → Option Decoded → Type 0
+Decodes (Some (Encoded.Half h)) d = (x : ℕ) → decode_of h x ≡ d
+Decodes (Some (Encoded.Pair h x)) d = decode_of h x ≡ d
+Decodes None d = ⊥
 
 -- the bits of a line that names w say what it says: its instruction, or its value in two bytes or in four, big-endian
-abbrev pub Says : What → ByteAddr → List ℕ → ℤ → Encoded → Type 0
+abbrev pub Says : What → ByteAddr → List ℕ → ℤ → Option Encoded → Type 0
 Says (What.Code k) a b z x = Decodes x (said_by k a b z)
 Says What.Half a b z x = (bits_of z < 65536) × (bytes_in x ≡ bits_of z / 256 ∷ bits_of z % 256 ∷ [])
 Says What.Word a b z x =
@@ -40,20 +39,20 @@ Says What.Word a b z x =
 -- ---- a line's faults
 
 abbrev pub is_deep : Valued → Bool
-is_deep (Valued.Not e) = true
-is_deep (Valued.Got v n) = false
+is_deep (Err e) = true
+is_deep (Ok (v, n)) = false
 
 abbrev pub is_unknown : Valued → Bool
-is_unknown (Valued.Not e) = false
-is_unknown (Valued.Got Value.Unknown n) = true
-is_unknown (Valued.Got Value.Large n) = false
-is_unknown (Valued.Got (Value.Is z) n) = false
+is_unknown (Err e) = false
+is_unknown (Ok (Value.Unknown, n)) = true
+is_unknown (Ok (Value.Large, n)) = false
+is_unknown (Ok (Value.Is z, n)) = false
 
 abbrev pub is_unfit : What → ByteAddr → List ℕ → Valued → Bool
-is_unfit w a b (Valued.Not e) = false
-is_unfit w a b (Valued.Got Value.Unknown n) = false
-is_unfit w a b (Valued.Got Value.Large n) = true
-is_unfit w a b (Valued.Got (Value.Is z) n) = not (has_bits (line_bits w a b z))
+is_unfit w a b (Err e) = false
+is_unfit w a b (Ok (Value.Unknown, n)) = false
+is_unfit w a b (Ok (Value.Large, n)) = true
+is_unfit w a b (Ok (Value.Is z, n)) = not (has_bits (line_bits w a b z))
 
 -- whether a line at a that names w has the fault that a refusal tells, whatever others it has: t all labels, s the names of those set before it,
 -- n bytes from p on wanted of m; no line has that of the start
@@ -68,26 +67,26 @@ faults_of t s a p n m w l Refusal.Value = is_unfit w a (body_of l) (line_value t
 faults_of t s a p n m w l Refusal.Room = ltb m (p + n)
 
 -- what is told of faults: none if there are none, and else the one with the lowest number
-abbrev pub Lowest : (Refusal → Bool) → Checked → Type 0
-Lowest f Checked.Fine = (q : Refusal) → f q ≡ false
-Lowest f (Checked.Not r) = (f r ≡ true) × ((q : Refusal) → number_of q < number_of r → f q ≡ false)
+abbrev pub Lowest : (Refusal → Bool) → Result Unit Refusal → Type 0
+Lowest f (Ok _) = (q : Refusal) → f q ≡ false
+Lowest f (Err r) = (f r ≡ true) × ((q : Refusal) → number_of q < number_of r → f q ≡ false)
 
 -- ---- the lines of a text, the first at p: s the names of the labels set before it, n the image's length
 
-abbrev pub check_at : Labels → List ℕ → ℕ → ℕ → List ℕ → Checked
+abbrev pub check_at : Labels → List ℕ → ℕ → ℕ → List ℕ → Result Unit Refusal
 check_at t s p n l = line_check t s (address_of p) (room_check p (shape_of (what_in l)).size n) (what_in l) l
 
 -- all are fine
 abbrev pub AllFine : Labels → List ℕ → ℕ → ℕ → List (List ℕ) → Type 0
 AllFine t s p n [] = Unit {0}
-AllFine t s p n (l ∷ r) = (check_at t s p n l ≡ Checked.Fine) × AllFine t (with_name s (label_in l)) (p + (shape_of (what_in l)).size) n r
+AllFine t s p n (l ∷ r) = (check_at t s p n l ≡ Ok tt) × AllFine t (with_name s (label_in l)) (p + (shape_of (what_in l)).size) n r
 
 -- the first k are fine, and the next is refused
 abbrev pub FineThenNot : Labels → List ℕ → ℕ → ℕ → ℕ → Refusal → List (List ℕ) → Type 0
 FineThenNot t s p n k q [] = ⊥
-FineThenNot t s p n zero q (l ∷ r) = check_at t s p n l ≡ Checked.Not q
+FineThenNot t s p n zero q (l ∷ r) = check_at t s p n l ≡ Err q
 FineThenNot t s p n (suc k) q (l ∷ r) =
-    (check_at t s p n l ≡ Checked.Fine) × FineThenNot t (with_name s (label_in l)) (p + (shape_of (what_in l)).size) n k q r
+    (check_at t s p n l ≡ Ok tt) × FineThenNot t (with_name s (label_in l)) (p + (shape_of (what_in l)).size) n k q r
 
 -- why line i is refused: the start is outside the image, and no line is; or it is the first that is not fine
 abbrev pub Told : Bool → Labels → ℕ → ℕ → Refusal → ℕ → List (List ℕ) → Type 0

@@ -1,5 +1,6 @@
 -- Two inputs that differ only in marked contents, line after line: phase, line number and marks stay equal, and memory differs only where marked.
 -- Assumes nothing.
+use Rattle.std.specs.Prelude.{None, Option, Some, ℕ}
 use Prim.Native.Nat.{ℕ, suc, ◌+◌, ◌*◌, ◌/◌, ◌%◌, ◌<◌, ◌≤◌, min}
 use mathlib.Core.Path.{◌≡◌, refl, sym, ap, ap₂, subst, ◌∙◌}
 use mathlib.Core.Bool.{Bool, true, false, cond, ◌&&◌, ◌||◌}
@@ -14,7 +15,6 @@ use Rattle.word.specs.Bits.{on}
 use Rattle.marks.specs.Memory.{Marks, bits as bit-layout, bytes as byte-layout, mark_at, put_marks}
 use Rattle.text.specs.Digits.{value_of, digits_read, decimal_of, address_of}
 use Rattle.text.specs.Fields.{tab_of, before_of, beyond_of, same_of}
-use Rattle.text.specs.declared.Read.{Read}
 use Rattle.machine.specs.State.{fresh_state}
 use Rattle.secrecy.specs.Same.{SameMem, Same}
 use Rattle.secrecy.proofs.Psw.{psw_like}
@@ -93,26 +93,26 @@ pick false x y = y
 module _ {k : Marks} {m n : List ℕ} (s : SameMem k m n) (size : ℕ) (j : Marks) where
   puts : (a : ℕ) (g h : List ℕ) → are_bytes g ≡ are_bytes h → length g ≡ length h → length (pairs_of g) ≡ length (pairs_of h)
       → ((i : ℕ) → mark_at k (a + i) ≡ false → get_or (pairs_of g) i 0 ≡ get_or (pairs_of h) i 0)
-      → SameTold k (put_of (Read.Number a) g size m j) (put_of (Read.Number a) h size n j)
+      → SameTold k (put_of (Some a) g size m j) (put_of (Some a) h size n j)
   unfolding put_of
   puts a g h t l b f =
       rw (← t, ← l)
       (pick (are_bytes g && leb (a + length g / 2) size) (knows (Phase.Body size) j (sets_same s a (pairs_of g) (pairs_of h) b f)) (knows Phase.Bad j s))
 
-  put_same : (r : Read) (h : List ℕ) → SameTold k (put_of r h size m j) (put_of r h size n j)
+  put_same : (r : Option ℕ) (h : List ℕ) → SameTold k (put_of r h size m j) (put_of r h size n j)
   unfolding put_of
-  put_same Read.Nothing h = knows Phase.Bad j s
-  put_same (Read.Number a) h = puts a h h refl refl refl (λ i e. refl)
+  put_same None h = knows Phase.Bad j s
+  put_same (Some a) h = puts a h h refl refl refl (λ i e. refl)
 
-  count_same : (a : ℕ) (r : Read) → SameTold k (count_of a r size m j) (count_of a r size n j)
+  count_same : (a : ℕ) (r : Option ℕ) → SameTold k (count_of a r size m j) (count_of a r size n j)
   unfolding count_of
-  count_same a Read.Nothing = knows Phase.Bad j s
-  count_same a (Read.Number c) = pick (eqb c 0 || leb (a + c) size) (knows (Phase.Body size) (put_marks c j a true) s) (knows Phase.Bad j s)
+  count_same a None = knows Phase.Bad j s
+  count_same a (Some c) = pick (eqb c 0 || leb (a + c) size) (knows (Phase.Body size) (put_marks c j a true) s) (knows Phase.Bad j s)
 
-  mark_same : (r c : Read) → SameTold k (mark_of r c size m j) (mark_of r c size n j)
+  mark_same : (r c : Option ℕ) → SameTold k (mark_of r c size m j) (mark_of r c size n j)
   unfolding mark_of
-  mark_same Read.Nothing c = knows Phase.Bad j s
-  mark_same (Read.Number a) c = count_same a c
+  mark_same None c = knows Phase.Bad j s
+  mark_same (Some a) c = count_same a c
 
   body_same : (w r : List ℕ) → SameTold k (body_of w r size m j) (body_of w r size n j)
   unfolding body_of
@@ -135,26 +135,26 @@ digit_tab : (c : ℕ) → ltb (value_of c) 16 ≡ true → eqb c 9 ≡ false
 unfolding value_of
 digit_tab c q = ne_eqb c 9 (λ e. let l : value_of 9 < 16 = subst (λ (x : ℕ). value_of x < 16) e (ltb-true (value_of c) 16 q) in omega arith)
 
-digits_tab : (v a : ℕ) (f h : List ℕ) → digits_read 16 v f ≡ Read.Number a → tab_of (f ++ (9 ∷ h)) ≡ length f
+digits_tab : (v a : ℕ) (f h : List ℕ) → digits_read 16 v f ≡ Some a → tab_of (f ++ (9 ∷ h)) ≡ length f
 unfolding digits_read tab_of
 digits_tab v a [] h e = refl
 digits_tab v a (c ∷ f) h e = go (ltb (value_of c) 16) refl e (digits_tab (v * 16 + value_of c) a f h)
   where
-    go : (t : Bool) → ltb (value_of c) 16 ≡ t → cond t (digits_read 16 (v * 16 + value_of c) f) Read.Nothing ≡ Read.Number a
-        → (digits_read 16 (v * 16 + value_of c) f ≡ Read.Number a → tab_of (f ++ (9 ∷ h)) ≡ length f)
+    go : (t : Bool) → ltb (value_of c) 16 ≡ t → cond t (digits_read 16 (v * 16 + value_of c) f) None ≡ Some a
+        → (digits_read 16 (v * 16 + value_of c) f ≡ Some a → tab_of (f ++ (9 ∷ h)) ≡ length f)
         → cond (eqb c 9) 0 (suc (tab_of (f ++ (9 ∷ h)))) ≡ suc (length f)
     go true q z ih = rw (digit_tab c q) (ap suc (ih z))
     go false q z ih = let x : ◌≡◌ {A = ℕ} 0 1 = cc in absurd (omega arith)
 
 -- so the fields of an `at` line are its address and its bytes
-address_tab : (a : ℕ) (f h : List ℕ) → address_of f ≡ Read.Number a → tab_of (f ++ (9 ∷ h)) ≡ length f
+address_tab : (a : ℕ) (f h : List ℕ) → address_of f ≡ Some a → tab_of (f ++ (9 ∷ h)) ≡ length f
 address_tab a f h e = go (eqb (length f) 8) e
   where
-    go : (t : Bool) → cond t (digits_read 16 0 f) Read.Nothing ≡ Read.Number a → tab_of (f ++ (9 ∷ h)) ≡ length f
+    go : (t : Bool) → cond t (digits_read 16 0 f) None ≡ Some a → tab_of (f ++ (9 ∷ h)) ≡ length f
     go true q = digits_tab 0 a f h q
     go false q = let x : ◌≡◌ {A = ℕ} 0 1 = cc in absurd (omega arith)
 
-module _ (a : ℕ) (f h : List ℕ) (e : address_of f ≡ Read.Number a) where
+module _ (a : ℕ) (f h : List ℕ) (e : address_of f ≡ Some a) where
   before_tab : before_of (f ++ (9 ∷ h)) ≡ f
   before_tab = take_at f (9 ∷ h) (tab_of (f ++ (9 ∷ h))) (sym (address_tab a f h e))
 
@@ -164,10 +164,10 @@ module _ (a : ℕ) (f h : List ℕ) (e : address_of f ≡ Read.Number a) where
       ∙ sym (drop-drop 1 (length f) (f ++ (9 ∷ h)))
       ∙ ap (drop 1) (drop_at f (9 ∷ h) (length f) refl)
 
-  at_line_lem : (size : ℕ) (m : List ℕ) (k : Marks) → line_of (Phase.Body size) (at_line f h) m k ≡ put_of (Read.Number a) h size m k
+  at_line_lem : (size : ℕ) (m : List ℕ) (k : Marks) → line_of (Phase.Body size) (at_line f h) m k ≡ put_of (Some a) h size m k
   unfolding line_of body_of tab_of same_of
   at_line_lem size m k =
-      ap₂ (λ (x y : List ℕ). put_of (address_of x) y size m k) before_tab beyond_tab ∙ ap (λ (r : Read). put_of r h size m k) e
+      ap₂ (λ (x y : List ℕ). put_of (address_of x) y size m k) before_tab beyond_tab ∙ ap (λ (r : Option ℕ). put_of r h size m k) e
 
 bytes_length : (h : List ℕ) → length (pairs_of h) ≡ length h / 2
 unfolding pairs_of

@@ -1,9 +1,8 @@
 -- "Differ only where marked" for two inputs of the small program.
 -- Assumes nothing.
-use Rattle.std.specs.Prelude.{ℕ, ◌+◌, ◌≡◌, true, false, List, [], ◌∷◌, ◌++◌, length, get_or}
+use Rattle.std.specs.Prelude.{ℕ, ◌+◌, ◌≡◌, true, false, List, [], ◌∷◌, ◌++◌, length, get_or, Some}
 use Rattle.marks.specs.Memory.{Marks, mark_at}
 use Rattle.text.specs.Digits.{address_of}
-use Rattle.text.specs.declared.Read.{Read}
 use Rattle.script.specs.Line.{word_at, are_bytes, pairs_of}
 use Rattle.answer.specs.Whole.{lines_of, left_of, after_lines, begin, is_ended}
 
@@ -15,7 +14,7 @@ at_line f h = word_at ++ (9 ∷ (f ++ (9 ∷ h)))
 -- whose unmarked bytes are equal.
 pub data AlikeLine (k : Marks) : List ℕ → List ℕ → Type 0 where
   same : (l : List ℕ) → AlikeLine k l l
-  bytes : (a : ℕ) (f g h : List ℕ) → address_of f ≡ Read.Number a → are_bytes g ≡ true → are_bytes h ≡ true → length g ≡ length h
+  bytes : (a : ℕ) (f g h : List ℕ) → address_of f ≡ Some a → are_bytes g ≡ true → are_bytes h ≡ true → length g ≡ length h
       → ((i : ℕ) → mark_at k (a + i) ≡ false → get_or (pairs_of g) i 0 ≡ get_or (pairs_of h) i 0)
       → AlikeLine k (at_line f g) (at_line f h)
 

@@ -1,5 +1,6 @@
 -- Instructions of one kind, at one address, whose operands are written alike are the same.
 -- Assumes nothing.
+use Rattle.std.specs.Prelude.{None, Option, Some}
 use Prim.Native.Nat.{ℕ, ◌+◌, ◌*◌, ◌-◌, ◌/◌, ◌%◌, ◌^◌, ◌<◌, ◌≤◌}
 use mathlib.Core.Path.{◌≡◌, refl, sym, ap, ap₂, ◌∙◌}
 use mathlib.Core.Bool.{Bool, true, false, cond, ◌&&◌}
@@ -26,16 +27,16 @@ use Rattle.columns.proofs.Bits.{field_text}
 use Rattle.columns.proofs.Operands.{one_same, two_same, three_same, register_same, sfr_same, number_same}
 
 -- two that are written alike are the same; a short one and a long one are not of one kind
-abbrev pub SameBy : ByteAddr → Decoded → Decoded → Type 0
-SameBy a (Decoded.Short i) (Decoded.Short j) = row_text (row_of a i) ≡ row_text (row_of a j) → i ≡ j
-SameBy a (Decoded.Long i) (Decoded.Long j) = row_text (row_of a i) ≡ row_text (row_of a j) → i ≡ j
-SameBy a (Decoded.Short i) (Decoded.Long j) = ⊥
-SameBy a (Decoded.Long i) (Decoded.Short j) = ⊥
-SameBy a Decoded.Nothing (Decoded.Short j) = Unit {0}
-SameBy a Decoded.Nothing (Decoded.Long j) = Unit {0}
-SameBy a Decoded.Nothing Decoded.Nothing = Unit {0}
-SameBy a (Decoded.Short i) Decoded.Nothing = Unit {0}
-SameBy a (Decoded.Long i) Decoded.Nothing = Unit {0}
+abbrev pub SameBy : ByteAddr → Option Decoded → Option Decoded → Type 0
+SameBy a (Some (Decoded.Short i)) (Some (Decoded.Short j)) = row_text (row_of a i) ≡ row_text (row_of a j) → i ≡ j
+SameBy a (Some (Decoded.Long i)) (Some (Decoded.Long j)) = row_text (row_of a i) ≡ row_text (row_of a j) → i ≡ j
+SameBy a (Some (Decoded.Short i)) (Some (Decoded.Long j)) = ⊥
+SameBy a (Some (Decoded.Long i)) (Some (Decoded.Short j)) = ⊥
+SameBy a None (Some (Decoded.Short j)) = Unit {0}
+SameBy a None (Some (Decoded.Long j)) = Unit {0}
+SameBy a None None = Unit {0}
+SameBy a (Some (Decoded.Short i)) None = Unit {0}
+SameBy a (Some (Decoded.Long i)) None = Unit {0}
 
 if_same : (t u : Bool) (a : ByteAddr) (i j : Instr) → (row_text (row_of a i) ≡ row_text (row_of a j) → i ≡ j) → SameBy a (short_if t i) (short_if u j)
 if_same true true a i j f = f

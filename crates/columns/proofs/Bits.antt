@@ -1,5 +1,6 @@
 -- The bits column of a listing gives back the bytes.
 -- Assumes nothing.
+use Rattle.std.specs.Prelude.{None, Option, Some}
 use Prim.Native.Nat.{ℕ, zero, suc, ◌+◌, ◌*◌, ◌-◌, ◌/◌, ◌%◌, ◌<◌, ◌≤◌}
 use mathlib.Core.Path.{◌≡◌, refl, sym, ap, ap₂, ◌∙◌}
 use mathlib.Core.Bool.{Bool, true, false, cond}
@@ -175,16 +176,16 @@ module _ (m : List ℕ) (bytes : Bytes m) where
     first_of a = refl
 
     -- a line of four bytes has a first half that says so
-    long_kind : (h s a : ℕ) (d : Decoded) → h < 65536 → d ≡ decode_of h s → (shown_of (from a) h (cut_by e (from a) d)).long ≡ true → is_long (h / 256) ≡ true
+    long_kind : (h s a : ℕ) (d : Option Decoded) → h < 65536 → d ≡ decode_of h s → (shown_of (from a) h (cut_by e (from a) d)).long ≡ true → is_long (h / 256) ≡ true
     unfolding shown_of
-    long_kind h s a (Decoded.Short i) k q t = let z : ◌≡◌ {A = ℕ} 0 1 = cc in absurd (omega arith)
-    long_kind h s a (Decoded.Long i) k q t = go (named h) (is_long (h / 256)) (sym (size_by_first_half h s k) ∙ sym (ap isa-size q))
+    long_kind h s a (Some (Decoded.Short i)) k q t = let z : ◌≡◌ {A = ℕ} 0 1 = cc in absurd (omega arith)
+    long_kind h s a (Some (Decoded.Long i)) k q t = go (named h) (is_long (h / 256)) (sym (size_by_first_half h s k) ∙ sym (ap isa-size q))
       where
         go : (u v : Bool) → ◌≡◌ {A = ℕ} (cond u (cond v 4 2) 0) 4 → v ≡ true
         go true true f = refl
         go true false f = absurd (omega arith)
         go false v f = absurd (omega arith)
-    long_kind h s a Decoded.Nothing k q t = let z : ◌≡◌ {A = ℕ} 0 1 = cc in absurd (omega arith)
+    long_kind h s a None k q t = let z : ◌≡◌ {A = ℕ} 0 1 = cc in absurd (omega arith)
 
     second_of : (a : ℕ) → (x a).shown.long ≡ true → (x a).second ≡ half_in m (byte_sum (from a) 2)
     unfolding entry_at

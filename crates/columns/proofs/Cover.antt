@@ -1,5 +1,6 @@
 -- The lines of a range cover it.
 -- Assumes nothing.
+use Rattle.std.specs.Prelude.{None, Option, Some}
 use Prim.Native.Nat.{ℕ, zero, suc, ◌+◌, ◌%◌, ◌≤◌}
 use mathlib.Core.Path.{◌≡◌, refl, sym, subst}
 use mathlib.Core.Bool.{Bool, true, false, cond}
@@ -19,15 +20,15 @@ even a true h = omega arith
 even a false h = omega arith
 
 -- a line that is not cut ends inside the range
-cut_inside : (e a h : ℕ) (d : Decoded) → a + 2 ≤ e → (shown_of (from a) h (cut_by e (from a) d)).long ≡ true → a + 4 ≤ e
+cut_inside : (e a h : ℕ) (d : Option Decoded) → a + 2 ≤ e → (shown_of (from a) h (cut_by e (from a) d)).long ≡ true → a + 4 ≤ e
 unfolding shown_of
-cut_inside e a h (Decoded.Short i) k t = let z : ◌≡◌ {A = ℕ} 0 1 = cc in absurd (omega arith)
-cut_inside e a h (Decoded.Long i) k t = go (leb (a + 4) e) refl t
+cut_inside e a h (Some (Decoded.Short i)) k t = let z : ◌≡◌ {A = ℕ} 0 1 = cc in absurd (omega arith)
+cut_inside e a h (Some (Decoded.Long i)) k t = go (leb (a + 4) e) refl t
   where
-    go : (b : Bool) → leb (a + 4) e ≡ b → (shown_of (from a) h (cond b (Decoded.Long i) Decoded.Nothing)).long ≡ true → a + 4 ≤ e
+    go : (b : Bool) → leb (a + 4) e ≡ b → (shown_of (from a) h (cond b (Some (Decoded.Long i)) None)).long ≡ true → a + 4 ≤ e
     go true q u = leb-true (a + 4) e q
     go false q u = let z : ◌≡◌ {A = ℕ} 0 1 = cc in absurd (omega arith)
-cut_inside e a h Decoded.Nothing k t = let z : ◌≡◌ {A = ℕ} 0 1 = cc in absurd (omega arith)
+cut_inside e a h None k t = let z : ◌≡◌ {A = ℕ} 0 1 = cc in absurd (omega arith)
 
 pub long_inside : (m : List ℕ) (e a : ℕ) → a + 2 ≤ e → (entry_at m (from a) e).shown.long ≡ true → a + 4 ≤ e
 unfolding entry_at

@@ -1,5 +1,6 @@
 -- Operands from their text.
 -- Assumes nothing.
+use Rattle.std.specs.Prelude.{None, Some}
 use Prim.Native.Nat.{ℕ, ◌-◌, ◌^◌, ◌<◌}
 use mathlib.Core.Path.{◌≡◌, refl, sym, ap, ◌∙◌}
 use mathlib.Core.Bool.{Bool, true, false, cond}
@@ -10,7 +11,6 @@ use lib.ListN.{drop}
 use borrow.Author.Tests.{ltb-true}
 use Rattle.isa.proofs.Rows.{and_left, and_right}
 use Rattle.text.specs.Digits.{value_of, digits_read, decimal_text, signed_text}
-use Rattle.text.specs.declared.Read.{Read}
 use Rattle.text.proofs.Theorems.{digits_differ, read_decimal, decimals_differ}
 use Rattle.listing.specs.Listing.{operand_text, row_text}
 use Rattle.listing.specs.declared.Operand.{Operand}
@@ -92,16 +92,16 @@ unfolding operand_text
 bits_same n k h i e = digits_differ 16 (omega arith) (omega arith) 4 n k h i (ap (drop 2) e)
 
 -- a signed decimal: no number is read from a minus
-minus : (l : List ℕ) → Read.Nothing ≡ digits_read 10 0 (45 ∷ l)
+minus : (l : List ℕ) → None ≡ digits_read 10 0 (45 ∷ l)
 unfolding digits_read value_of
 minus l = refl
 
 digit_first : (n : ℕ) → n < 10 ^ 20 → (l : List ℕ) → decimal_text n ≡ 45 ∷ l → ⊥
 digit_first n h l e = no_minus (decimal_text n) (read_decimal n h) l e
   where
-    no_minus : (t : List ℕ) → digits_read 10 0 t ≡ Read.Number n → (l : List ℕ) → t ≡ 45 ∷ l → ⊥
+    no_minus : (t : List ℕ) → digits_read 10 0 t ≡ Some n → (l : List ℕ) → t ≡ 45 ∷ l → ⊥
     no_minus t r l q =
-        let f : Read.Nothing ≡ Read.Number n = minus l ∙ ap (digits_read 10 0) (sym q) ∙ r in
+        let f : None ≡ Some n = minus l ∙ ap (digits_read 10 0) (sym q) ∙ r in
         let z : ◌≡◌ {A = ℕ} 0 1 = cc in
         omega arith
 

@@ -1,5 +1,6 @@
 -- Refusals 20 and 21 of a listing, as facts in their order.
 -- Assumes nothing.
+use Rattle.std.specs.Prelude.{Err, Ok, Result}
 use Prim.Native.Nat.{ℕ, ◌%◌, ◌<◌, ◌≤◌}
 use mathlib.Core.Path.{◌≡◌, refl}
 use mathlib.Core.Bool.{Bool, true, false, cond, ◌||◌}
@@ -10,9 +11,9 @@ use borrow.Author.Tests.{ltb-true, ltb-false, eqb-true}
 use Rattle.listing.specs.Listing.{listing_of}
 use Rattle.listing.specs.Lent.{is_out_of, answered, put_into, listed_of}
 use Rattle.listing.specs.Parts.{Good}
-use Rattle.listing.specs.declared.Listed.{Listed}
 use Rattle.listing.proofs.Lent.{good}
 use Rattle.columns.specs.Columns.{Outside, large, odd_start, odd_end, reversed, past, Answers}
+use Rattle.listing.specs.declared.Refusal.{Refusal}
 
 -- which of the five tests it was
 outside : (n s e : ℕ) → is_out_of n s e ≡ true → Outside n s e
@@ -33,7 +34,7 @@ module _ (m : List ℕ) (s e : ℕ) (l : List ℕ) where
   fits g = go (ltb (length l) (length text)) refl
     where
       go : (b : Bool) → ltb (length l) (length text) ≡ b
-          → Answers m s e (length l) (cond b (answered Listed.NoRoom l) (answered (Listed.Done (length text)) (text ++ drop (length text) l))).listed
+          → Answers m s e (length l) (cond b (answered (Err Refusal.NoRoom) l) (answered (Ok (length text)) (text ++ drop (length text) l))).listed
       go true h = (g, ltb-true _ _ h)
       go false h = (g, ltb-false _ _ h, refl)
 
@@ -41,6 +42,6 @@ module _ (m : List ℕ) (s e : ℕ) (l : List ℕ) where
   unfolding listed_of
   answers = go (is_out_of (length m) s e) refl
     where
-      go : (b : Bool) → is_out_of (length m) s e ≡ b → Answers m s e (length l) (cond b (answered Listed.OutOfImage l) (put_into text l)).listed
+      go : (b : Bool) → is_out_of (length m) s e ≡ b → Answers m s e (length l) (cond b (answered (Err Refusal.OutOfImage) l) (put_into text l)).listed
       go true h = outside (length m) s e h
       go false h = fits (good (length m) s e h)

@@ -1,5 +1,6 @@
 -- What a line says is said of one instruction at that address.
 -- Assumes nothing.
+use Rattle.std.specs.Prelude.{None, Option, Some}
 use Prim.Native.Nat.{ℕ, ◌+◌, ◌/◌, ◌<◌}
 use mathlib.Core.Path.{◌≡◌, refl, sym, ap, ap₂, subst, ◌∙◌}
 use mathlib.Core.Bool.{Bool, true, false, cond}
@@ -12,6 +13,7 @@ use Rattle.isa.specs.Codes.{kind_of}
 use Rattle.isa.specs.Decode.{operands_of, decode_of}
 use Rattle.isa.specs.Statements.{size_of}
 use Rattle.isa.specs.declared.Kind.{Kind}
+use Rattle.isa.specs.declared.Instr.{Instr}
 use Rattle.isa.specs.declared.Decoded.{Decoded}
 use Rattle.isa.proofs.Theorems.{one_short_pattern, one_long_pattern}
 use Rattle.text.specs.Digits.{half_text}
@@ -39,28 +41,28 @@ said_parts p q r s e =
     (ap (λ (l : List ℕ). name_at p ++ l) (sym (row_tab r)) ∙ e ∙ ap (λ (l : List ℕ). name_at q ++ l) (row_tab s)) in
     (d.0, row_tab r ∙ ap (λ (l : List ℕ). 9 ∷ l) d.1 ∙ sym (row_tab s))
 
-abbrev pub said : ByteAddr → ℕ → Decoded → List ℕ
+abbrev pub said : ByteAddr → ℕ → Option Decoded → List ℕ
 said a h d = name_at (shown_of a h d).place ++ row_text (shown_of a h d).row
 
 -- what is shown is what decodes, or it was cut
-pub data Shows (h s : ℕ) (d : Decoded) : Type 0 where
+pub data Shows (h s : ℕ) (d : Option Decoded) : Type 0 where
   whole : d ≡ decode_of h s → Shows h s d
-  cut : d ≡ Decoded.Nothing → Shows h s d
+  cut : d ≡ None → Shows h s d
 
 pub shows : (e : ℕ) (a : ByteAddr) (h s : ℕ) → Shows h s (cut_by e a (decode_of h s))
 shows e a h s = go (decode_of h s) refl
   where
-    go : (d : Decoded) → d ≡ decode_of h s → Shows h s (cut_by e a d)
-    go (Decoded.Short i) q = whole q
-    go (Decoded.Long i) q = long (leb (a.0 + 4) e)
+    go : (d : Option Decoded) → d ≡ decode_of h s → Shows h s (cut_by e a d)
+    go (Some (Decoded.Short i)) q = whole q
+    go (Some (Decoded.Long i)) q = long (leb (a.0 + 4) e)
       where
-        long : (t : Bool) → Shows h s (cond t (Decoded.Long i) Decoded.Nothing)
+        long : (t : Bool) → Shows h s (cond t (Some (Decoded.Long i)) None)
         long true = whole q
         long false = cut refl
-    go Decoded.Nothing q = whole q
+    go None q = whole q
 
 -- .. so what takes bytes is what decodes
-pub came : (h s : ℕ) (d : Decoded) → Shows h s d → (size_of d ≡ 0 → ⊥) → d ≡ decode_of h s
+pub came : (h s : ℕ) (d : Option Decoded) → Shows h s d → (size_of d ≡ 0 → ⊥) → d ≡ decode_of h s
 came h s d (whole e) f = e
 came h s d (cut e) f = absurd (f (ap size_of e))
 
@@ -72,59 +74,59 @@ four e = omega arith
 
 module _ (a : ByteAddr) (h s g t : ℕ) (hh : h < 65536) (hs : s < 65536) (hg : g < 65536) (ht : t < 65536) where
   -- two instructions
-  kinds : (d c : Decoded) → d ≡ decode_of h s → c ≡ decode_of g t → (size_of d ≡ 0 → ⊥) → (size_of c ≡ 0 → ⊥)
+  kinds : (d c : Option Decoded) → d ≡ decode_of h s → c ≡ decode_of g t → (size_of d ≡ 0 → ⊥) → (size_of c ≡ 0 → ⊥)
       → name_at (place_of (h / 256)) ≡ name_at (place_of (g / 256)) → SameBy a d c
   unfolding decode_of
   kinds d c p q f k e =
       let m : kind_of (h / 256) ≡ kind_of (g / 256) = one_kind h s g t hh hg (λ z. f (ap size_of p ∙ z)) (λ z. k (ap size_of q ∙ z)) e in
-      subst (λ (x : Decoded). SameBy a x c) (sym p)
-      (subst (λ (x : Decoded). SameBy a (operands_of (kind_of (h / 256)) h s) x) (sym (q ∙ ap (λ (x : Kind). operands_of x g t) (sym m))) (alike a h s g t (kind_of (h / 256))))
+      subst (λ (x : Option Decoded). SameBy a x c) (sym p)
+      (subst (λ (x : Option Decoded). SameBy a (operands_of (kind_of (h / 256)) h s) x) (sym (q ∙ ap (λ (x : Kind). operands_of x g t) (sym m))) (alike a h s g t (kind_of (h / 256))))
 
   -- an instruction, and none
-  unlike : (g t : ℕ) (c : Decoded) → g < 65536 → c ≡ decode_of g t → (size_of c ≡ 0 → ⊥) → name_at half_place ≡ name_at (place_of (g / 256)) → ⊥
+  unlike : (g t : ℕ) (c : Option Decoded) → g < 65536 → c ≡ decode_of g t → (size_of c ≡ 0 → ⊥) → name_at half_place ≡ name_at (place_of (g / 256)) → ⊥
   unfolding decode_of operands_of
   unlike g t c hg q k e =
       let l : place_of (g / 256) ≡ half_place = sym (byte_back g t hg λ z. k (ap size_of q ∙ z)) ∙ ap place_named (sym e) ∙ half_back in
       k (ap size_of (q ∙ ap (λ (x : Kind). operands_of x g t) (none_at_half (g / 256) (omega arith) l)))
 
-  abbrev Agree : Decoded → Decoded → Type 0
+  abbrev Agree : Option Decoded → Option Decoded → Type 0
   Agree d c = (d ≡ c) × (half_text h ++ second_text (shown_of a h d).long s ≡ half_text g ++ second_text (shown_of a g c).long t)
 
-  pub agree : (d c : Decoded) → Shows h s d → Shows g t c → said a h d ≡ said a g c → Agree d c
+  pub agree : (d c : Option Decoded) → Shows h s d → Shows g t c → said a h d ≡ said a g c → Agree d c
   unfolding shown_of
-  agree (Decoded.Short i) (Decoded.Short j) u v e =
+  agree (Some (Decoded.Short i)) (Some (Decoded.Short j)) u v e =
       let n = said_parts _ _ _ _ e in
-      let p = came h s (Decoded.Short i) u two in
-      let q = came g t (Decoded.Short j) v two in
-      let k : i ≡ j = kinds (Decoded.Short i) (Decoded.Short j) p q two two n.0 n.1 in
-      let b : h ≡ g = one_short_pattern h s g t i hh hs hg ht (sym p) (sym q ∙ ap Decoded.Short (sym k)) in
-      (ap Decoded.Short k, ap (λ (x : ℕ). half_text x ++ []) b)
-  agree (Decoded.Long i) (Decoded.Long j) u v e =
+      let p = came h s (Some (Decoded.Short i)) u two in
+      let q = came g t (Some (Decoded.Short j)) v two in
+      let k : i ≡ j = kinds (Some (Decoded.Short i)) (Some (Decoded.Short j)) p q two two n.0 n.1 in
+      let b : h ≡ g = one_short_pattern h s g t i hh hs hg ht (sym p) (sym q ∙ ap (λ (x : Instr). Some (Decoded.Short x)) (sym k)) in
+      (ap (λ (x : Instr). Some (Decoded.Short x)) k, ap (λ (x : ℕ). half_text x ++ []) b)
+  agree (Some (Decoded.Long i)) (Some (Decoded.Long j)) u v e =
       let n = said_parts _ _ _ _ e in
-      let p = came h s (Decoded.Long i) u four in
-      let q = came g t (Decoded.Long j) v four in
-      let k : i ≡ j = kinds (Decoded.Long i) (Decoded.Long j) p q four four n.0 n.1 in
-      let b = one_long_pattern h s g t i hh hs hg ht (sym p) (sym q ∙ ap Decoded.Long (sym k)) in
-      (ap Decoded.Long k, ap₂ (λ (x y : ℕ). half_text x ++ half_text y) b.0 b.1)
-  agree Decoded.Nothing Decoded.Nothing u v e =
+      let p = came h s (Some (Decoded.Long i)) u four in
+      let q = came g t (Some (Decoded.Long j)) v four in
+      let k : i ≡ j = kinds (Some (Decoded.Long i)) (Some (Decoded.Long j)) p q four four n.0 n.1 in
+      let b = one_long_pattern h s g t i hh hs hg ht (sym p) (sym q ∙ ap (λ (x : Instr). Some (Decoded.Long x)) (sym k)) in
+      (ap (λ (x : Instr). Some (Decoded.Long x)) k, ap₂ (λ (x y : ℕ). half_text x ++ half_text y) b.0 b.1)
+  agree None None u v e =
       let n = said_parts _ _ _ _ e in
       let b : h ≡ g = bits_same h g hh hg (one_same (Operand.Bits h) (Operand.Bits g) n.1) in
       (refl, ap (λ (x : ℕ). half_text x ++ []) b)
-  agree (Decoded.Short i) (Decoded.Long j) u v e =
+  agree (Some (Decoded.Short i)) (Some (Decoded.Long j)) u v e =
       let n = said_parts _ _ _ _ e in
-      absurd (kinds (Decoded.Short i) (Decoded.Long j) (came h s (Decoded.Short i) u two) (came g t (Decoded.Long j) v four) two four n.0)
-  agree (Decoded.Long i) (Decoded.Short j) u v e =
+      absurd (kinds (Some (Decoded.Short i)) (Some (Decoded.Long j)) (came h s (Some (Decoded.Short i)) u two) (came g t (Some (Decoded.Long j)) v four) two four n.0)
+  agree (Some (Decoded.Long i)) (Some (Decoded.Short j)) u v e =
       let n = said_parts _ _ _ _ e in
-      absurd (kinds (Decoded.Long i) (Decoded.Short j) (came h s (Decoded.Long i) u four) (came g t (Decoded.Short j) v two) four two n.0)
-  agree Decoded.Nothing (Decoded.Short j) u v e =
+      absurd (kinds (Some (Decoded.Long i)) (Some (Decoded.Short j)) (came h s (Some (Decoded.Long i)) u four) (came g t (Some (Decoded.Short j)) v two) four two n.0)
+  agree None (Some (Decoded.Short j)) u v e =
       let n = said_parts _ _ _ _ e in
-      absurd (unlike g t (Decoded.Short j) hg (came g t (Decoded.Short j) v two) two n.0)
-  agree Decoded.Nothing (Decoded.Long j) u v e =
+      absurd (unlike g t (Some (Decoded.Short j)) hg (came g t (Some (Decoded.Short j)) v two) two n.0)
+  agree None (Some (Decoded.Long j)) u v e =
       let n = said_parts _ _ _ _ e in
-      absurd (unlike g t (Decoded.Long j) hg (came g t (Decoded.Long j) v four) four n.0)
-  agree (Decoded.Short i) Decoded.Nothing u v e =
+      absurd (unlike g t (Some (Decoded.Long j)) hg (came g t (Some (Decoded.Long j)) v four) four n.0)
+  agree (Some (Decoded.Short i)) None u v e =
       let n = said_parts _ _ _ _ e in
-      absurd (unlike h s (Decoded.Short i) hh (came h s (Decoded.Short i) u two) two (sym n.0))
-  agree (Decoded.Long i) Decoded.Nothing u v e =
+      absurd (unlike h s (Some (Decoded.Short i)) hh (came h s (Some (Decoded.Short i)) u two) two (sym n.0))
+  agree (Some (Decoded.Long i)) None u v e =
       let n = said_parts _ _ _ _ e in
-      absurd (unlike h s (Decoded.Long i) hh (came h s (Decoded.Long i) u four) four (sym n.0))
+      absurd (unlike h s (Some (Decoded.Long i)) hh (came h s (Some (Decoded.Long i)) u four) four (sym n.0))

@@ -1,5 +1,6 @@
 -- The theorems of this crate, each with its statement; read this file alone with specs/. The proofs are in the files that it cites.
 -- Assumes nothing.
+use Rattle.std.specs.Prelude.{Err, Ok, Result}
 use Prim.Native.Nat.{ℕ, ◌-◌, ◌*◌, ◌/◌, ◌<◌, ◌≤◌}
 use mathlib.Core.Path.{◌≡◌, refl, sym, ap, ◌∙◌}
 use mathlib.Core.Bool.{Bool, true, false, cond}
@@ -23,7 +24,6 @@ use Rattle.listing.specs.Names.{names, place_of, letters_in, name_at}
 use Rattle.listing.specs.Listing.{row_of, operand_text, row_text, half_in, second_in, shown_of, entry_at, entries_of, entries_in, line_text, lines_text, listing_of}
 use Rattle.listing.specs.Lent.{is_out_of, number_of, length_of, Answered, answered, listed_of}
 use Rattle.listing.specs.declared.Entry.{Entry}
-use Rattle.listing.specs.declared.Listed.{Listed}
 use Rattle.listing.specs.Parts.{Good}
 use Rattle.listing.proofs.Lent.{good, roomy}
 use Rattle.columns.specs.Opcodes.{Opcode, half_said, opcodes}
@@ -33,6 +33,7 @@ use Rattle.columns.proofs.Cover.{covered}
 use Rattle.columns.proofs.Names.{one_kind}
 use Rattle.columns.proofs.Said.{shows, agree}
 use Rattle.columns.proofs.Refusals.{answers}
+use Rattle.listing.specs.declared.Refusal.{Refusal}
 
 -- The first three columns of a listing are its lines' addresses, bits and mnemonics.
 by_line : (k : ℕ) (part : Entry → List ℕ) → ((x : Entry) (l : List ℕ) → column_of k 0 (line_text x ++ l) ≡ part x ++ column_of k 0 l)
@@ -113,7 +114,7 @@ module _ (m : List ℕ) (s e : ℕ) (l : List ℕ) where
   rest_stays = go (is_out_of (length m) s e) (ltb (length l) (length (listing_of m s e)))
     where
       answer : Bool → Bool → Answered
-      answer t u = cond t (answered Listed.OutOfImage l) (cond u (answered Listed.NoRoom l) (answered (Listed.Done (length (listing_of m s e))) (listing_of m s e ++ drop (length (listing_of m s e)) l)))
+      answer t u = cond t (answered (Err Refusal.OutOfImage) l) (cond u (answered (Err Refusal.NoRoom) l) (answered (Ok (length (listing_of m s e))) (listing_of m s e ++ drop (length (listing_of m s e)) l)))
 
       go : (t u : Bool) → drop (length_of (answer t u).listed) (answer t u).out ≡ drop (length_of (answer t u).listed) l
       go true u = refl
@@ -122,7 +123,7 @@ module _ (m : List ℕ) (s e : ℕ) (l : List ℕ) where
 
   -- 6. 24 bytes for each byte of the range are always room enough.
   pub room_enough : is_out_of (length m) s e ≡ false → (e - s) * 24 ≤ length l
-      → listed_of m s e l ≡ answered (Listed.Done (length (listing_of m s e))) (listing_of m s e ++ drop (length (listing_of m s e)) l)
+      → listed_of m s e l ≡ answered (Ok (length (listing_of m s e))) (listing_of m s e ++ drop (length (listing_of m s e)) l)
   unfolding listed_of
   room_enough ok h = rw (ok, le-ltb (length l) (length (listing_of m s e)) (roomy m s e (length l) (good (length m) s e ok) h))
 
@@ -131,7 +132,7 @@ module _ (m : List ℕ) (s e : ℕ) (l : List ℕ) where
   refusals_in_order = answers m s e l
 
   -- 7. What is answered is determined: two results of `list`, and of `manik_list`, that satisfy what it ensures coincide.
-  pub list_determined : (x y : Listed) (a b : List ℕ) → answered x a ≡ listed_of m s e l → answered y b ≡ listed_of m s e l → (x ≡ y) × (a ≡ b)
+  pub list_determined : (x y : Result ℕ Refusal) (a b : List ℕ) → answered x a ≡ listed_of m s e l → answered y b ≡ listed_of m s e l → (x ≡ y) × (a ≡ b)
   list_determined x y a b p q = let r = p ∙ sym q in (ap (λ (z : Answered). z.listed) r, ap (λ (z : Answered). z.out) r)
 
   pub call_determined : (x y v w : ℕ) (a b : List ℕ)

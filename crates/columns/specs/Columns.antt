@@ -1,6 +1,6 @@
 -- Words that the theorems on a listing are stated in (proofs/Theorems.antt has the statements).
 -- Assumes nothing.
-use Rattle.std.specs.Prelude.{ℕ, zero, suc, ◌+◌, ◌-◌, ◌%◌, ◌<◌, ◌≤◌, ◌≡◌, cond, List, [], ◌∷◌, ◌++◌, eqb, length, get_or}
+use Rattle.std.specs.Prelude.{ℕ, zero, suc, ◌+◌, ◌-◌, ◌%◌, ◌<◌, ◌≤◌, ◌≡◌, cond, List, [], ◌∷◌, ◌++◌, eqb, length, get_or, Err, Ok, Option, Result}
 use Rattle.word.specs.declared.ByteAddr.{ByteAddr}
 use Rattle.isa.specs.Decode.{decode_of}
 use Rattle.isa.specs.declared.Decoded.{Decoded}
@@ -10,7 +10,7 @@ use Rattle.listing.specs.Names.{name_at}
 use Rattle.listing.specs.Listing.{row_text, half_in, second_in, cut_by, entry_at, size_of, second_text, listing_of}
 use Rattle.listing.specs.Parts.{Good}
 use Rattle.listing.specs.declared.Entry.{Entry}
-use Rattle.listing.specs.declared.Listed.{Listed}
+use Rattle.listing.specs.declared.Refusal.{Refusal}
 
 -- a memory of bytes
 abbrev pub Bytes : List ℕ → Type 0
@@ -49,7 +49,7 @@ abbrev pub said_at : List ℕ → ByteAddr → ℕ → List ℕ
 said_at m a e = name_at (entry_at m a e).shown.place ++ row_text (entry_at m a e).shown.row
 
 -- the instruction there, or none: no instruction, or cut by the end
-abbrev pub found_at : List ℕ → ByteAddr → ℕ → Decoded
+abbrev pub found_at : List ℕ → ByteAddr → ℕ → Option Decoded
 found_at m a e = cut_by e a (decode_of (half_in m a) (second_in m a (half_in m a)))
 
 -- the place of a mnemonic: the first of the last n places that has this name; 82 if none has
@@ -71,7 +71,7 @@ pub data Outside (n s e : ℕ) : Type 0 where
   past : n < e → Outside n s e
 
 -- what is answered for the range of image m from s to e and a buffer of size bytes
-abbrev pub Answers : List ℕ → ℕ → ℕ → ℕ → Listed → Type 0
-Answers m s e size Listed.OutOfImage = Outside (length m) s e
-Answers m s e size Listed.NoRoom = Good (length m) s e × (size < length (listing_of m s e))
-Answers m s e size (Listed.Done k) = Good (length m) s e × (length (listing_of m s e) ≤ size) × (k ≡ length (listing_of m s e))
+abbrev pub Answers : List ℕ → ℕ → ℕ → ℕ → Result ℕ Refusal → Type 0
+Answers m s e size (Err Refusal.OutOfImage) = Outside (length m) s e
+Answers m s e size (Err Refusal.NoRoom) = Good (length m) s e × (size < length (listing_of m s e))
+Answers m s e size (Ok k) = Good (length m) s e × (length (listing_of m s e) ≤ size) × (k ≡ length (listing_of m s e))

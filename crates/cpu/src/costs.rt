@@ -1,18 +1,16 @@
 // What shifts cost in cycles, by their amount.
+#![tactic(auto, unfolding(crate::specs::Cycles::shift_cost))]
+
 ghost use Rattle.std.specs.Prelude.{◌≡◌};
 ghost use Rattle.cpu.specs.Cycles.{shift_cost};
 
 pub fn shift_cost(n: u32) -> u8
     ensures { result ≡ shift_cost n }
 {
-    if n < 8 {
-        return 2;
+    match n {
+        0..8 => 2,
+        8..16 => 3,
+        16..24 => 4,
+        _ => 5,
     }
-    if n < 16 {
-        return 3;
-    }
-    if n < 24 {
-        return 4;
-    }
-    5
 }

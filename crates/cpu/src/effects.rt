@@ -1,6 +1,7 @@
 // The program counter, and the effect of an instruction: a register, or only the control part.
-ghost use Rattle.std.specs.Prelude.{◌≡◌, false, if◌then◌else◌};
-ghost use Rattle.word.specs.Numbers.{sum_of, difference_of};
+#![tactic(auto, unfolding(crate::specs::Exec::branch, crate::specs::Exec::onward, crate::specs::Exec::go_to, crate::specs::Exec::jump, crate::specs::Exec::linked))]
+
+ghost use Rattle.std.specs.Prelude.{◌≡◌, if◌then◌else◌};
 ghost use Rattle.cpu.specs.Control.{wants, with_tf, with_cy};
 ghost use Rattle.cpu.specs.Cycles.{branch_cost};
 ghost use Rattle.cpu.specs.Exec.{onward, go_to, linked, jump, branch, puts_reg, moves, costing};
@@ -37,7 +38,7 @@ pub fn jump_by(d: HalfDisp, c: Control) -> Control
 pub fn is_wanted(t: bool, c: Control) -> bool
     ensures { result ≡ wants t c }
 {
-    word::same(word::is_on(c.psw, 8), t)
+    word::is_on(c.psw, 8) == t
 }
 
 // A register and the next instruction, at a cost.
@@ -104,18 +105,4 @@ pub fn set_if(wanted: bool, d: u32, v: u32, x: u32, c: Control) -> Effect
     } else {
         set_reg(d, x, c)
     }
-}
-
-pub fn plus(x: u32, y: u32) -> u32
-    ensures { result ≡ sum_of x y false }
-{
-    let s = word::add(x, y, false);
-    s.value
-}
-
-pub fn minus(x: u32, y: u32) -> u32
-    ensures { result ≡ difference_of x y false }
-{
-    let s = word::sub(x, y, false);
-    s.value
 }

@@ -1,5 +1,7 @@
 // Entries, breakpoints, watchpoints and the timer.
-ghost use Rattle.std.specs.Prelude.{◌≡◌, ◌-◌, true, ◌&&◌, ◌||◌, ◌==◌, nat_le};
+#![tactic(auto, unfolding(crate::specs::Entries::enter, crate::specs::Entries::entered, crate::specs::Entries::is_break, crate::specs::Entries::watch_hit, crate::specs::Entries::watch_entry, crate::specs::Entries::fallen, crate::specs::Entries::passed, crate::specs::Cycles::entry_cost))]
+
+ghost use Rattle.std.specs.Prelude.{◌≡◌, ◌-◌, true, ◌&&◌, ◌||◌, ◌==◌, if◌then◌else◌, Option, Some, None, nat_le, nat_lt};
 ghost use Rattle.word.specs.Bits.{with_bit};
 ghost use Rattle.cpu.specs.Control.{with_psw, with_timer};
 ghost use Rattle.cpu.specs.Entries.{vector, enter, entered, is_break, watch_hit, watch_entry, fallen, passed};
@@ -95,15 +97,16 @@ pub fn enter(e: Entry, c: Control) -> Control
 fn is_hit(enabled: bool, a: u32, b: u32) -> bool
     ensures { result ≡ (enabled && a == b) }
 {
-    word::both(enabled, a == b)
+    enabled && a == b
 }
 
 pub fn has_break(c: Control) -> bool
     ensures { result ≡ is_break c }
 {
+    // Both are asked: without the second, where the first is so, the machine's loop costs 10 instructions a step more.
     let zero = is_hit(word::is_on(c.hwdbg, 2), c.bp0, c.pc);
     let one = is_hit(word::is_on(c.hwdbg, 3), c.bp1, c.pc);
-    word::either(zero, one)
+    zero || one
 }
 
 fn watch_hit(a: ByteAddr, c: Control) -> u32
@@ -111,35 +114,38 @@ fn watch_hit(a: ByteAddr, c: Control) -> u32
 {
     let zero = is_hit(word::is_on(c.hwdbg, 4), c.wp0, a.0);
     let one = is_hit(word::is_on(c.hwdbg, 5), c.wp1, a.0);
-    word::number(zero) * 2 + word::number(one) * 4
+    u32::from(zero) * 2 + u32::from(one) * 4
 }
 
 // Mostly no watchpoint is enabled, and then none is compared.
+#[tactic(auto, unfolding(crate::specs::Entries::watch_hit), using(crate::proofs::Laws::unwatched))]
+fn hit_at(a: ByteAddr, c: Control) -> Option<u32>
+    ensures { result ≡ (if nat_lt 0 (watch_hit a c) then Some (watch_hit a c) else None) }
+{
+    if word::field(c.hwdbg, 4, 2) == 0 {
+        return None;
+    }
+    let hit = watch_hit(a, c);
+    if 0 < hit { Some(hit) } else { None }
+}
+
 pub fn watch(a: ByteAddr, c: Control) -> Entry
     ensures { result ≡ watch_entry a c }
 {
-    if word::field(c.hwdbg, 4, 2) == 0 {
-        return Entry::Nothing;
-    }
-    let hit = watch_hit(a, c);
-    if 0 < hit {
-        Entry::Debug(hit)
-    } else {
-        Entry::Nothing
-    }
+    hit_at(a, c).map_or(Entry::Nothing, Entry::Debug)
 }
 
 // The same entry made, or none. An entry that is made where it is known costs the machine's loop less than one that is matched again.
 pub fn enter_watch(a: ByteAddr, c: Control) -> Control
     ensures { result ≡ entered (watch_entry a c) c }
 {
-    if word::field(c.hwdbg, 4, 2) == 0 {
-        return c;
+    match hit_at(a, c) {
+        Some(hit) => enter_debug(hit, c),
+        None => c,
     }
-    let hit = watch_hit(a, c);
-    if 0 < hit { enter_debug(hit, c) } else { c }
 }
 
+// `saturating_sub` for the two branches costs the machine's loop 4 to 7 instructions a step.
 fn fall_by(n: u32, c: Control) -> Control
     ensures { result ≡ with_timer c (c.timer - n) (c.pending || nat_le c.timer n) }
 {
@@ -154,10 +160,7 @@ fn fall_by(n: u32, c: Control) -> Control
 pub fn watch_cost(a: ByteAddr, c: Control) -> u8
     ensures { result ≡ entry_cost (watch_entry a c) }
 {
-    if word::field(c.hwdbg, 4, 2) == 0 {
-        return 0;
-    }
-    if 0 < watch_hit(a, c) { 4 } else { 0 }
+    if hit_at(a, c).is_some() { 4 } else { 0 }
 }
 
 // What an entry adds to its instruction's cost.
@@ -165,13 +168,9 @@ pub fn entry_cost(e: Entry) -> u8
     ensures { result ≡ entry_cost e }
 {
     match e {
-        Entry::Nothing => 0,
-        Entry::Swint(_) => 0,
-        Entry::Debug(_) => 4,
-        Entry::Timer => 4,
-        Entry::External(_) => 4,
-        Entry::FetchError => 4,
-        Entry::DataError => 4,
+        Entry::Nothing | Entry::Swint(_) => 0,
+        Entry::Debug(_) | Entry::Timer | Entry::External(_) => 4,
+        Entry::FetchError | Entry::DataError => 4,
     }
 }
 
@@ -194,5 +193,5 @@ fn fall(te: bool, n: u32, c: Control) -> Control
 pub fn pass(te: bool, n: u32, c: Control) -> Control
     ensures { result ≡ passed te n c }
 {
-    with_cycles(fall(te, n, c), std::num::wrapping_add_u32(c.cycles, n))
+    with_cycles(fall(te, n, c), c.cycles.wrapping_add(n))
 }

@@ -69,8 +69,8 @@ pub enum Entry {
     DataError,
 }
 
-// There are sixteen registers: this is none of them.
+// There are sixteen registers: this is none of them. A number, and no Option, since `no_reg` of specs/Exec.antt, which theorems speak of, is this one.
 pub const NO_REG: u32 = 16;
 
-// A register that an instruction does not look at.
+// A register that an instruction does not look at. The loop reads two registers at every step, and so does `sources_of` of specs/Exec.antt: no Option.
 const UNREAD: u32 = 0;

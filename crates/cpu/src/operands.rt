@@ -1,4 +1,6 @@
 // The registers that an instruction reads, and the address of its data.
+#![tactic(auto, unfolding(crate::specs::Exec::sources_of, crate::specs::Exec::data_address))]
+
 ghost use Rattle.std.specs.Prelude.{◌≡◌};
 ghost use Rattle.cpu.specs.Exec.{two, sources_of, data_address};
 
@@ -10,24 +12,23 @@ pub fn sources_of(i: Instr) -> Sources
     ensures { result ≡ sources_of i }
 {
     match i {
-        Instr::Alu(_, d, b) => two_of(d, b),
-        Instr::ShiftImm(_, d, _) => two_of(d, UNREAD),
-        Instr::Cmp(_, d, b) => two_of(d, b),
-        Instr::CmpImm(_, d, _) => two_of(d, UNREAD),
-        Instr::Cond(_, _, d, b) => two_of(d, b),
-        Instr::CondImm(_, d, _) => two_of(d, UNREAD),
-        Instr::Ldrpc(_, _) => two_of(UNREAD, UNREAD),
-        Instr::Imm(_, d, _) => two_of(d, UNREAD),
-        Instr::Load(_, _, _, b) => two_of(UNREAD, b),
-        Instr::Store(_, d, _, b) => two_of(d, b),
-        Instr::Mfsfr(_, _) => two_of(UNREAD, UNREAD),
-        Instr::Mtsfr(_, b) => two_of(UNREAD, b),
-        Instr::Jr(b) => two_of(UNREAD, b),
-        Instr::Jrl(b) => two_of(UNREAD, b),
-        Instr::Jsfr(_) => two_of(UNREAD, UNREAD),
-        Instr::Swint(_) => two_of(UNREAD, UNREAD),
-        Instr::ShortJump(_, _) => two_of(UNREAD, UNREAD),
-        Instr::LongJump(_, _) => two_of(UNREAD, UNREAD),
+        Instr::Alu(_, d, b)
+        | Instr::Cmp(_, d, b)
+        | Instr::Cond(_, _, d, b)
+        | Instr::Store(_, d, _, b) => two_of(d, b),
+        Instr::ShiftImm(_, d, _)
+        | Instr::CmpImm(_, d, _)
+        | Instr::CondImm(_, d, _)
+        | Instr::Imm(_, d, _) => two_of(d, UNREAD),
+        Instr::Load(_, _, _, b) | Instr::Mtsfr(_, b) | Instr::Jr(b) | Instr::Jrl(b) => two_of(
+            UNREAD, b,
+        ),
+        Instr::Ldrpc(_, _)
+        | Instr::Mfsfr(_, _)
+        | Instr::Jsfr(_)
+        | Instr::Swint(_)
+        | Instr::ShortJump(_, _)
+        | Instr::LongJump(_, _) => two_of(UNREAD, UNREAD),
     }
 }
 

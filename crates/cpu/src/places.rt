@@ -1,4 +1,6 @@
 // The control part, and the ways to change one place of it.
+#![tactic(auto, unfolding(crate::specs::Control::with_pc, crate::specs::Control::with_sfr, crate::specs::Control::with_pending, crate::specs::Control::with_cycles))]
+
 ghost use Rattle.std.specs.Prelude.{◌≡◌};
 ghost use Rattle.cpu.specs.Control.{fresh_control, with_pc, with_sfr, with_psw, with_ipc, with_hwdbg, with_pending, with_timer, with_cycles, sfr_of};
 

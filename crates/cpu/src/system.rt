@@ -1,4 +1,6 @@
 // Special function registers, jumps and swint; each says what exec says of it.
+#![tactic(auto, unfolding(crate::specs::Exec::exec, crate::specs::Exec::makes, crate::specs::Cycles::cost_of, crate::specs::Exec::psw_written, crate::specs::Exec::leave, crate::specs::Exec::written, crate::specs::Exec::timer_written))]
+
 ghost use Rattle.std.specs.Prelude.{◌≡◌};
 ghost use Rattle.isa.specs.declared.Instr.{Instr};
 ghost use Rattle.cpu.specs.Exec.{accepted, timer_written, psw_written, written, leave, exec};
@@ -18,7 +20,7 @@ pub fn mfsfr(d: u32, n: u32, c: Control) -> Effect
 fn is_accepted(c: Control) -> bool
     ensures { result ≡ accepted c }
 {
-    word::either(!word::is_on(c.psw, 3), word::is_on(c.psw, 2))
+    !word::is_on(c.psw, 3) || word::is_on(c.psw, 2)
 }
 
 fn write_timer(v: u32, c: Control) -> Control
@@ -41,16 +43,12 @@ fn keep_psw(p: u32, v: u32) -> u32
 fn write_sfr(n: u32, v: u32, c: Control) -> Control
     ensures { result ≡ written n v c }
 {
-    if n == 0 {
-        return with_psw(c, keep_psw(c.psw, v));
+    match n {
+        0 => with_psw(c, keep_psw(c.psw, v)),
+        3 => write_timer(v, c),
+        6 => with_hwdbg(c, word::with_field(c.hwdbg, 2, 4, word::field(v, 2, 4))),
+        _ => with_sfr(n, c, v),
     }
-    if n == 3 {
-        return write_timer(v, c);
-    }
-    if n == 6 {
-        return with_hwdbg(c, word::with_field(c.hwdbg, 2, 4, word::field(v, 2, 4)));
-    }
-    with_sfr(n, c, v)
 }
 
 pub fn mtsfr(n: u32, y: u32, c: Control) -> Effect
@@ -60,7 +58,7 @@ pub fn mtsfr(n: u32, y: u32, c: Control) -> Effect
         control: go_on(2, write_sfr(n, y, c)),
         reg: NO_REG,
         value: 0,
-        wrote: word::both(n == 3, is_accepted(c)),
+        wrote: n == 3 && is_accepted(c),
         cost: 1,
     }
 }
@@ -100,6 +98,7 @@ pub fn swint(n: u32, c: Control) -> Effect
     move_to(2, go_on(2, c))
 }
 
+// Two functions, since each promises what exec says of an instruction of its own, and only jl links.
 pub fn short_jump(op: ShortOp, d: HalfDisp, c: Control) -> Effect
     ensures { result ≡ exec (Instr.ShortJump op d) 0 0 0 c }
 {

@@ -1,13 +1,13 @@
 // ALU, shifts, compares and immediates; each says what exec says of it.
+#![tactic(auto, unfolding(crate::specs::Exec::exec, crate::specs::Exec::makes, crate::specs::Cycles::cost_of, crate::specs::Cycles::alu_cost, crate::specs::Cycles::shift_imm_cost, crate::specs::Exec::alu_of, crate::specs::Exec::carried, crate::specs::Exec::cmp_of, crate::specs::Exec::cmp_imm_of, crate::specs::Exec::cond_of, crate::specs::Exec::imm_value, crate::specs::Exec::shift_of))]
+
 ghost use Rattle.std.specs.Prelude.{◌≡◌, if◌then◌else◌};
 ghost use Rattle.word.specs.declared.Width.{Width};
 ghost use Rattle.isa.specs.declared.Instr.{Instr};
 ghost use Rattle.cpu.specs.Exec.{cond_of, puts_reg, costing, exec};
 
 use crate::costs::shift_cost;
-use crate::effects::{
-    go_on, is_wanted, minus, move_to, plus, set_at, set_if, set_reg, set_sum, set_tf,
-};
+use crate::effects::{go_on, is_wanted, move_to, set_at, set_if, set_reg, set_sum, set_tf};
 use crate::{Control, Effect};
 use isa::{AluOp, CmpImmOp, CmpOp, CondOp, ImmOp, ShiftOp};
 
@@ -73,15 +73,15 @@ pub fn conditional(op: CondOp, wanted: bool, d: u32, x: u32, y: u32, c: Control)
 {
     match op {
         CondOp::Mov => set_if(wanted, d, y, x, c),
-        CondOp::Sub => set_if(wanted, d, minus(x, y), x, c),
-        CondOp::Add => set_if(wanted, d, plus(x, y), x, c),
+        CondOp::Sub => set_if(wanted, d, x.wrapping_sub(y), x, c),
+        CondOp::Add => set_if(wanted, d, x.wrapping_add(y), x, c),
     }
 }
 
 pub fn conditional_imm(t: bool, d: u32, n: u32, x: u32, c: Control) -> Effect
     ensures { result ≡ exec (Instr.CondImm t d n) x 0 0 c }
 {
-    set_if(is_wanted(t, c), d, plus(x, n), x, c)
+    set_if(is_wanted(t, c), d, x.wrapping_add(n), x, c)
 }
 
 pub fn immediate(op: ImmOp, d: u32, n: u32, x: u32, c: Control) -> Effect
@@ -89,7 +89,7 @@ pub fn immediate(op: ImmOp, d: u32, n: u32, x: u32, c: Control) -> Effect
 {
     match op {
         ImmOp::And => set_reg(d, x & n, c),
-        ImmOp::Add => set_reg(d, plus(x, n), c),
+        ImmOp::Add => set_reg(d, x.wrapping_add(n), c),
         ImmOp::Mov => set_reg(d, n, c),
     }
 }

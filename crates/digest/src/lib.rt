@@ -4,6 +4,7 @@
 ghost use Rattle.std.specs.Prelude.{◌≡◌};
 ghost use Rattle.digest.specs.Digest.{folded, digest_of};
 
+#[tactic(auto, using(crate::proofs::Laws::cut_first))]
 pub fn fold(d: u64, x: u32) -> u64
     ensures { result ≡ folded d x }
 {
@@ -11,20 +12,9 @@ pub fn fold(d: u64, x: u32) -> u64
     (d % 4294967291 * 1000003 + x as u64) % 4294967291
 }
 
-fn wide(x: u8) -> u32
-    ensures { result ≡ x }
-{
-    x as u32
-}
-
+#[tactic(auto, using(crate::proofs::Laws::digest_folds))]
 pub fn fold_bytes(d: u64, m: &[u8]) -> u64
     ensures { result ≡ digest_of d m.now }
 {
-    let mut e = d;
-    let mut i: usize = 0;
-    while i < m.len() {
-        e = fold(e, wide(m[i]));
-        i += 1;
-    }
-    e
+    m.iter().fold(d, |e, x| fold(e, u32::from(*x)))
 }

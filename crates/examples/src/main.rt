@@ -2,126 +2,49 @@
 #![tactic(auto)]
 
 use reading::read_full;
-use script::Reader;
+use session::Session;
 use std::io;
-use text::Read;
-
-fn write_start(rt: &impl Print, text: &[u8], n: usize) -> io::Result<()> {
-    let end = word::at_most(n, text.len());
-    rt.write_all(&text[..end])
-}
-
-// An array behind a reference is lent as a slice with no proof of its length.
-fn write_made(rt: &impl Print, text: &[u8; 256], n: usize) -> io::Result<()> {
-    write_start(rt, text, n)
-}
+use std::io::Read;
 
 // Where there is no count, nothing is read.
 fn count_in(count: &[u8]) -> usize {
-    let r = text::address(count);
-    match r {
-        Read::Number(n) => n as usize,
-        Read::Nothing => 0,
-    }
-}
-
-fn feed_whole(
-    input: &mut impl io::Read,
-    r: Reader,
-    part: &mut [u8],
-    line: &mut [u8; 45],
-    m: &mut [u8; 16384],
-    k: &mut [u8; 2048],
-) -> io::Result<Reader> {
-    read_full(input, part)?;
-    Ok(script::feed(r, part, line, m, k))
-}
-
-fn feed_some(
-    input: &mut impl io::Read,
-    r: Reader,
-    n: usize,
-    part: &mut [u8],
-    line: &mut [u8; 45],
-    m: &mut [u8; 16384],
-    k: &mut [u8; 2048],
-) -> io::Result<Reader> {
-    let end = word::at_most(n, part.len());
-    feed_whole(input, r, &mut part[..end], line, m, k)
+    text::address(count).map_or(0, |n| n as usize)
 }
 
 fn feed_all(
-    input: &mut impl io::Read,
-    r: Reader,
-    count: usize,
+    session: &mut Session,
+    input: &mut impl Read,
     part: &mut [u8; 7],
-    line: &mut [u8; 45],
-    m: &mut [u8; 16384],
-    k: &mut [u8; 2048],
-) -> io::Result<Reader> {
-    let mut s = r;
-    let mut left = count;
-    while 7 <= left {
-        s = feed_some(input, s, 7, part, line, m, k)?;
-        left -= 7;
-    }
-    feed_some(input, s, left, part, line, m, k)
-}
-
-fn answer_one(
-    rt: &impl Print,
-    input: &mut impl io::Read,
     count: usize,
-    part: &mut [u8; 7],
-    line: &mut [u8; 45],
-    m: &mut [u8; 16384],
-    k: &mut [u8; 2048],
 ) -> io::Result<()> {
-    let r = feed_all(input, script::start(m, k), count, part, line, m, k)?;
-    let mut out = [0u8; 256];
-    let n = answer::answer(r, m, k, &mut out);
-    write_made(rt, &out, n)
+    for _ in 0..count / 7 {
+        read_full(input, part)?;
+        session.feed(part);
+    }
+    let rest = &mut part[..count % 7];
+    read_full(input, rest)?;
+    session.feed(rest);
+    Ok(())
 }
 
 // At most 10,000 inputs, so that the loop ends.
-fn answer_all(
-    rt: &impl Print,
-    input: &mut impl io::Read,
-    name: &mut [u8; 41],
-    count: &mut [u8; 8],
-    part: &mut [u8; 7],
-    line: &mut [u8; 45],
-    m: &mut [u8; 16384],
-    k: &mut [u8; 2048],
-) -> io::Result<()> {
-    let mut i: u32 = 0;
-    while i < 10000 {
-        if read_full(input, name)? < 41 {
+fn answer_all(rt: &impl Print, input: &mut impl Read) -> io::Result<()> {
+    let mut name = [0u8; 41];
+    let mut count = [0u8; 8];
+    let mut part = [0u8; 7];
+    for _ in 0..10000 {
+        if read_full(input, &mut name)? < 41 {
             return Ok(());
         }
-        read_full(input, count)?;
-        rt.write_all(name)?;
-        answer_one(rt, input, count_in(count), part, line, m, k)?;
-        i += 1;
+        read_full(input, &mut count)?;
+        rt.write_all(&name)?;
+        let mut session = Session::start();
+        feed_all(&mut session, input, &mut part, count_in(&count))?;
+        session.write_answer(rt)?;
     }
     Ok(())
 }
 
 fn main(rt: HostRuntime) -> io::Result<()> {
-    let mut name = [0u8; 41];
-    let mut count = [0u8; 8];
-    let mut part = [0u8; 7];
-    let mut line = [0u8; 45];
-    let mut m = [0u8; 16384];
-    let mut k = [0u8; 2048];
-    answer_all(
-        &rt,
-        &mut rt.reader(),
-        &mut name,
-        &mut count,
-        &mut part,
-        &mut line,
-        &mut m,
-        &mut k,
-    )
+    answer_all(&rt, &mut rt.reader())
 }

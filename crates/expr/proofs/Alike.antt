@@ -1,8 +1,9 @@
 -- Two readings go alike: of a text, and of the same text with an end that joins nothing, by other labels and with another allowance.
 -- Once for both uses: a text is read as before where `)` follows, and its form depends neither on labels nor, but for depth, on the allowance.
 -- Assumes nothing.
+use Rattle.std.specs.Prelude.{None, Option, Some, ℕ, Ok, Err}
 use Prim.Native.Nat.{ℕ, zero, suc, ◌+◌, ◌<◌, ◌≤◌}
-use mathlib.Core.Path.{◌≡◌, refl, ap, ap₂, ◌∙◌}
+use mathlib.Core.Path.{◌≡◌, refl, sym, ap, ap₂, ◌∙◌}
 use mathlib.Core.Bool.{Bool, true, false, cond, ◌||◌}
 use mathlib.Core.List.{List, [], ◌∷◌, ◌++◌, append-nil}
 use native.Mathlib.Omega.{arith}
@@ -11,18 +12,17 @@ use borrow.Author.Tests.{eqb-true, ltb-true, ltb-false}
 use lib.ListN.{length, get_or, take, drop, length-append, length-drop, length-take, get_or-append}
 use lib.Seq.{take-append-le, drop-append-le, drop_at}
 use Rattle.text.specs.Digits.{digits_read, leading_zero}
-use Rattle.text.specs.declared.Read.{Read as Digits}
-use Rattle.expr.specs.declared.Read.{Read}
+use Rattle.expr.specs.Expr.{Read}
 use Rattle.expr.specs.declared.Value.{Value}
 use Rattle.expr.specs.declared.Fault.{Fault}
 use Rattle.expr.specs.Value.{combined, written}
 use Rattle.expr.specs.Expr.{Labels, none, size_of, is_letter, is_hex, run_of, key_of, meaning, counted, word_read, leaf_of, joined_of, chain_of, items_of, adds, multiplies, sign_of, signed_of, closed_of, plain_with, operand_with, product_with, sum_with, inside_of, sum_of}
-use Rattle.expr.proofs.Laws.{within, items_got, items_not, chain_stop, chain_on, chain_not, chain_none}
+use Rattle.expr.proofs.Laws.{got_same, within, items_got, items_not, chain_stop, chain_on, chain_not, chain_none}
 use Rattle.expr.proofs.Names.{run_most}
 
 -- ---- nothing is read of nothing
 
-pub no_plain : (t : Labels) (inside : List ℕ → Read) → plain_with inside t [] ≡ Read.Not Fault.Form
+pub no_plain : (t : Labels) (inside : List ℕ → Read) → plain_with inside t [] ≡ Err Fault.Form
 unfolding plain_with leaf_of word_read run_of
 no_plain t inside = refl
 
@@ -30,27 +30,27 @@ no_plain t inside = refl
 
 module _ (same : Value → Value → Type 0) (allowed : Fault → Type 0) where
   abbrev pub like : List ℕ → Read → Read → Type 0
-  like s (Read.Not e) r = Unit
-  like s (Read.Got v n) (Read.Got w m) = same v w × (m ≡ n) × (n ≤ length s)
-  like s (Read.Got v n) (Read.Not e) = allowed e
+  like s (Err e) r = Unit
+  like s (Ok (v, n)) (Ok (w, m)) = same v w × (m ≡ n) × (n ≤ length s)
+  like s (Ok (v, n)) (Err e) = allowed e
 
   like_by : (s : List ℕ) {a b : Read} → a ≡ b → {x y : Read} → x ≡ y → like s b y → like s a x
   like_by s e f h = rw (e, f) h
 
-  pub like_fault : (s : List ℕ) (r : Read) (e : Fault) → allowed e → like s r (Read.Not e)
-  like_fault s (Read.Got v n) e a = a
-  like_fault s (Read.Not f) e a = tt
+  pub like_fault : (s : List ℕ) (r : Read) (e : Fault) → allowed e → like s r (Err e)
+  like_fault s (Ok (v, n)) e a = a
+  like_fault s (Err f) e a = tt
 
   -- of a word: both are values of all its bytes, or neither is
   abbrev exact : ℕ → Read → Read → Type 0
-  exact z (Read.Not e) y = Unit
-  exact z (Read.Got v n) (Read.Got w m) = same v w × (n ≡ z) × (m ≡ z)
-  exact z (Read.Got v n) (Read.Not e) = ⊥
+  exact z (Err e) y = Unit
+  exact z (Ok (v, n)) (Ok (w, m)) = same v w × (n ≡ z) × (m ≡ z)
+  exact z (Ok (v, n)) (Err e) = ⊥
 
   exact_like : (z : ℕ) (s : List ℕ) → z ≤ length s → (x y : Read) → exact z x y → like s x y
-  exact_like z s h (Read.Got v n) (Read.Got u m) (a, b, c) = (a, omega arith, omega arith)
-  exact_like z s h (Read.Got v n) (Read.Not e) a = absurd a
-  exact_like z s h (Read.Not e) y a = tt
+  exact_like z s h (Ok (v, n)) (Ok (u, m)) (a, b, c) = (a, omega arith, omega arith)
+  exact_like z s h (Ok (v, n)) (Err e) a = absurd a
+  exact_like z s h (Err e) y a = tt
 
   module _ (t u : Labels) (end : List ℕ) (ends : run_of end ≡ 0)
       (self : (v : Value) → same v v)
@@ -62,16 +62,16 @@ module _ (same : Value → Value → Type 0) (allowed : Fault → Type 0) where
     unfolding word_read counted
     word_exact w = go (is_letter (get_or w 0 0)) (leb (length w) 12) (is_hex w) (eqb (length w) 0 || leading_zero w) (digits_read 16 0 (drop 2 w)) (digits_read 10 0 w)
       where
-        go : (a b c d : Bool) (x y : Digits)
-            → exact (length w) (cond a (cond b (Read.Got (meaning t (key_of w)) (length w)) (Read.Not Fault.Form)) (cond c (counted (length w) x) (cond d (Read.Not Fault.Form) (counted (length w) y))))
-            (cond a (cond b (Read.Got (meaning u (key_of w)) (length w)) (Read.Not Fault.Form)) (cond c (counted (length w) x) (cond d (Read.Not Fault.Form) (counted (length w) y))))
+        go : (a b c d : Bool) (x y : Option ℕ)
+            → exact (length w) (cond a (cond b (Ok (meaning t (key_of w), length w)) (Err Fault.Form)) (cond c (counted (length w) x) (cond d (Err Fault.Form) (counted (length w) y))))
+            (cond a (cond b (Ok (meaning u (key_of w), length w)) (Err Fault.Form)) (cond c (counted (length w) x) (cond d (Err Fault.Form) (counted (length w) y))))
         go true true c d x y = (meant (key_of w), refl, refl)
         go true false c d x y = tt
-        go false b true d (Digits.Number n) y = (self (written n), refl, refl)
-        go false b true d Digits.Nothing y = tt
+        go false b true d (Some n) y = (self (written n), refl, refl)
+        go false b true d None y = tt
         go false b false true x y = tt
-        go false b false false x (Digits.Number n) = (self (written n), refl, refl)
-        go false b false false x Digits.Nothing = tt
+        go false b false false x (Some n) = (self (written n), refl, refl)
+        go false b false false x None = tt
 
     run_same : (s : List ℕ) → run_of (s ++ end) ≡ run_of s
     unfolding run_of
@@ -89,15 +89,15 @@ module _ (same : Value → Value → Type 0) (allowed : Fault → Type 0) where
 
     closed_like : (c : ℕ) (r : List ℕ) (x y : Read) → like r x y → like (c ∷ r) (closed_of r x) (closed_of (r ++ end) y)
     unfolding closed_of
-    closed_like c r (Read.Not e) y h = tt
-    closed_like c r (Read.Got v n) (Read.Not e) h = go (eqb (get_or r n 0) 41)
+    closed_like c r (Err e) y h = tt
+    closed_like c r (Ok (v, n)) (Err e) h = go (eqb (get_or r n 0) 41)
       where
-        go : (b : Bool) → like (c ∷ r) (cond b (Read.Got v (n + 2)) (Read.Not Fault.Form)) (Read.Not e)
+        go : (b : Bool) → like (c ∷ r) (cond b (Ok (v, n + 2)) (Err Fault.Form)) (Err e)
         go true = h
         go false = tt
-    closed_like c r (Read.Got v n) (Read.Got w m) (a, e, h) = go (eqb (get_or r n 0) 41) refl
+    closed_like c r (Ok (v, n)) (Ok (w, m)) (a, e, h) = go (eqb (get_or r n 0) 41) refl
       where
-        go : (b : Bool) → eqb (get_or r n 0) 41 ≡ b → like (c ∷ r) (cond b (Read.Got v (n + 2)) (Read.Not Fault.Form)) (cond (eqb (get_or (r ++ end) m 0) 41) (Read.Got w (m + 2)) (Read.Not Fault.Form))
+        go : (b : Bool) → eqb (get_or r n 0) 41 ≡ b → like (c ∷ r) (cond b (Ok (v, n + 2)) (Err Fault.Form)) (cond (eqb (get_or (r ++ end) m 0) 41) (Ok (w, m + 2)) (Err Fault.Form))
         go true p =
             let q : get_or r n 0 ≡ 41 = eqb-true _ _ p in
             let k : n < length r = within r n (λ z. omega (arith, z)) in
@@ -106,15 +106,15 @@ module _ (same : Value → Value → Type 0) (allowed : Fault → Type 0) where
 
     signed_like : (c : ℕ) (r : List ℕ) (x y : Read) → like r x y → like (c ∷ r) (signed_of 1 x) (signed_of 1 y)
     unfolding signed_of
-    signed_like c r (Read.Not e) y h = tt
-    signed_like c r (Read.Got v n) (Read.Not e) h = h
-    signed_like c r (Read.Got v n) (Read.Got w m) (a, e, h) = (made 45 _ _ v w (self _) a, ap (λ (i : ℕ). i + 1) e, omega arith)
+    signed_like c r (Err e) y h = tt
+    signed_like c r (Ok (v, n)) (Err e) h = h
+    signed_like c r (Ok (v, n)) (Ok (w, m)) (a, e, h) = (made 45 _ _ v w (self _) a, ap (λ (i : ℕ). i + 1) e, omega arith)
 
     unsigned_like : (s : List ℕ) (x y : Read) → like s x y → like s (signed_of 0 x) (signed_of 0 y)
     unfolding signed_of
-    unsigned_like s (Read.Not e) y h = tt
-    unsigned_like s (Read.Got v n) (Read.Not e) h = h
-    unsigned_like s (Read.Got v n) (Read.Got w m) h = h
+    unsigned_like s (Err e) y h = tt
+    unsigned_like s (Ok (v, n)) (Err e) h = h
+    unsigned_like s (Ok (v, n)) (Ok (w, m)) h = h
 
     module _ (in1 in2 : List ℕ → Read) (inner : (s : List ℕ) → like s (in1 s) (in2 (s ++ end))) where
       plain_like : (s : List ℕ) → like s (plain_with in1 t s) (plain_with in2 u (s ++ end))
@@ -126,7 +126,7 @@ module _ (same : Value → Value → Type 0) (allowed : Fault → Type 0) where
           go true = closed_like c r _ _ (inner r)
           go false = leaf_like (c ∷ r)
 
-      no_signed : signed_of 0 (Read.Not Fault.Form) ≡ Read.Not Fault.Form
+      no_signed : signed_of 0 (Err Fault.Form) ≡ Err Fault.Form
       unfolding signed_of
       no_signed = refl
 
@@ -142,7 +142,7 @@ module _ (same : Value → Value → Type 0) (allowed : Fault → Type 0) where
     -- ---- chains
 
     module _ (joins : ℕ → Bool) (stops : joins (get_or end 0 0) ≡ false) (item1 item2 : List ℕ → Read) (each : (s : List ℕ) → like s (item1 s) (item2 (s ++ end))) where
-      at_end : (v : Value) (i : ℕ) (e : List ℕ) → joins (get_or e 0 0) ≡ false → chain_of joins item2 v i 0 e ≡ Read.Got v i
+      at_end : (v : Value) (i : ℕ) (e : List ℕ) → joins (get_or e 0 0) ≡ false → chain_of joins item2 v i 0 e ≡ Ok (v, i)
       unfolding chain_of
       at_end v i [] h = refl
       at_end v i (c ∷ e) h = rw h
@@ -172,10 +172,10 @@ module _ (same : Value → Value → Type 0) (allowed : Fault → Type 0) where
           turn_like : joins (get_or l i 0) ≡ true → (x y : Read) → item1 (drop (i + 1) l) ≡ x → item2 (drop (i + 1) (l ++ end)) ≡ y → like (drop (i + 1) l) x y
               → ((n : ℕ) (b c : Value) → same b c → i + 1 + n ≤ length l → like l (first (i + 1 + n) b) (second (i + 1 + n) c)) → like l (first i v) (second i w)
           unfolding joined_of
-          turn_like j (Read.Not e) y p q r k = like_by l (chain_not joins item1 l i h v i e j (ap (joined_of _ v) p)) {y = second i w} refl tt
-          turn_like j (Read.Got x n) (Read.Not e) p q r k = like_by l {a = first i v} refl (chain_not joins item2 (l ++ end) i far w i e (ap joins byte_same ∙ j) (ap (joined_of _ w) q)) (like_fault l (first i v) e r)
-          turn_like j (Read.Got x n) (Read.Got y m) p q (b, f, g) k =
-              let e : joined_of (get_or (l ++ end) i 0) w (item2 (drop (i + 1) (l ++ end))) ≡ Read.Got (combined (get_or l i 0) w y) n
+          turn_like j (Err e) y p q r k = like_by l (chain_not joins item1 l i h v i e j (ap (joined_of _ v) p)) {y = second i w} refl tt
+          turn_like j (Ok (x, n)) (Err e) p q r k = like_by l {a = first i v} refl (chain_not joins item2 (l ++ end) i far w i e (ap joins byte_same ∙ j) (ap (joined_of _ w) q)) (like_fault l (first i v) e r)
+          turn_like j (Ok (x, n)) (Ok (y, m)) p q (b, f, g) k =
+              let e : joined_of (get_or (l ++ end) i 0) w (item2 (drop (i + 1) (l ++ end))) ≡ Ok (combined (get_or l i 0) w y, n)
               = ap (joined_of _ w) q ∙ rw (byte_same, f) in
               let long = rw length-drop at g in
               like_by l (chain_on joins item1 l i h v (combined (get_or l i 0) v x) i n j (ap (joined_of _ v) p)) (chain_on joins item2 (l ++ end) i far w (combined (get_or l i 0) w y) i n (ap joins byte_same ∙ j) e)
@@ -198,9 +198,9 @@ module _ (same : Value → Value → Type 0) (allowed : Fault → Type 0) where
         items_like = go (item1 l) (item2 (l ++ end)) refl refl (each l)
           where
             go : (x y : Read) → item1 l ≡ x → item2 (l ++ end) ≡ y → like l x y → like l (items_of joins item1 l) (items_of joins item2 (l ++ end))
-            go (Read.Not e) y p q r = like_by l (items_not joins item1 l e p) {y = items_of joins item2 (l ++ end)} refl tt
-            go (Read.Got v n) (Read.Not e) p q r = like_by l {a = items_of joins item1 l} refl (items_not joins item2 (l ++ end) e q) (like_fault l (items_of joins item1 l) e r)
-            go (Read.Got v n) (Read.Got w m) p q (a, f, h) =
+            go (Err e) y p q r = like_by l (items_not joins item1 l e p) {y = items_of joins item2 (l ++ end)} refl tt
+            go (Ok (v, n)) (Err e) p q r = like_by l {a = items_of joins item1 l} refl (items_not joins item2 (l ++ end) e q) (like_fault l (items_of joins item1 l) e r)
+            go (Ok (v, n)) (Ok (w, m)) p q (a, f, h) =
                 like_by l (items_got joins item1 l v n p) (items_got joins item2 (l ++ end) w m q ∙ rw f) (chain_like (length l) n v w a h (omega arith))
 
     -- ---- the grammar
@@ -226,16 +226,16 @@ nil_name : run_of [] ≡ 0
 unfolding run_of
 nil_name = refl
 
-word_some : (t : Labels) (w : List ℕ) (v : Value) → word_read t w ≡ Read.Got v 0 → ⊥
+word_some : (t : Labels) (w : List ℕ) (v : Value) → word_read t w ≡ Ok (v, 0) → ⊥
 unfolding word_read
 word_some t [] v e = let z : ◌≡◌ {A = ℕ} 0 1 = cc in omega arith
 word_some t (c ∷ w) v e = go (word_read t (c ∷ w)) e (word_exact any no t t [] nil_name (λ v. tt) (λ k. tt) (λ c v w x y a b. tt) (c ∷ w))
   where
-    go : (x : Read) → x ≡ Read.Got v 0 → exact any no (suc (length w)) x x → ⊥
-    go (Read.Got u n) p (a, b, c) = let q : n ≡ 0 = cc in omega arith
-    go (Read.Not f) p h = let z : ◌≡◌ {A = ℕ} 0 1 = cc in omega arith
+    go : (x : Read) → x ≡ Ok (v, 0) → exact any no (suc (length w)) x x → ⊥
+    go (Ok (u, n)) p (a, b, c) = let q = got_same _ _ _ _ p in omega (arith, q.1)
+    go (Err f) p h = let z : ◌≡◌ {A = ℕ} 0 1 = cc in omega arith
 
-pub leaf_some : (t : Labels) (s : List ℕ) (v : Value) → leaf_of t s ≡ Read.Got v 0 → ⊥
+pub leaf_some : (t : Labels) (s : List ℕ) (v : Value) → leaf_of t s ≡ Ok (v, 0) → ⊥
 unfolding leaf_of
 leaf_some t s v e = word_some t (take (run_of s) s) v e
 
@@ -260,17 +260,17 @@ unfolding size_of
 sum_within t more s = go (sum_of t more s) (sum_of t more (s ++ 41 ∷ [])) (sum_kept t [] more s)
   where
     go : (x y : Read) → like ◌≡◌ no s x y → size_of x ≤ length s
-    go (Read.Not e) y h = omega arith
-    go (Read.Got v n) (Read.Got w m) (a, e, h) = h
-    go (Read.Got v n) (Read.Not e) h = absurd h
+    go (Err e) y h = omega arith
+    go (Ok (v, n)) (Ok (w, m)) (a, e, h) = h
+    go (Ok (v, n)) (Err e) h = absurd h
 
-pub sum_still : (t : Labels) (more : ℕ) (s r : List ℕ) (v : Value) (n : ℕ) → sum_of t more s ≡ Read.Got v n → sum_of t more (s ++ 41 ∷ r) ≡ Read.Got v n
+pub sum_still : (t : Labels) (more : ℕ) (s r : List ℕ) (v : Value) (n : ℕ) → sum_of t more s ≡ Ok (v, n) → sum_of t more (s ++ 41 ∷ r) ≡ Ok (v, n)
 sum_still t more s r v n = go (sum_of t more s) (sum_of t more (s ++ 41 ∷ r)) (sum_kept t r more s)
   where
-    go : (x y : Read) → like ◌≡◌ no s x y → x ≡ Read.Got v n → y ≡ Read.Got v n
-    go (Read.Not e) y h p = absurd (let z : ◌≡◌ {A = ℕ} 0 1 = cc in omega arith)
-    go (Read.Got u k) (Read.Not e) h p = absurd h
-    go (Read.Got u k) (Read.Got w m) (a, b, c) p = cc
+    go : (x y : Read) → like ◌≡◌ no s x y → x ≡ Ok (v, n) → y ≡ Ok (v, n)
+    go (Err e) y h p = absurd (let z : ◌≡◌ {A = ℕ} 0 1 = cc in omega arith)
+    go (Ok (u, k)) (Err e) h p = absurd h
+    go (Ok (u, k)) (Ok (w, m)) (a, b, c) p = let q = got_same _ _ _ _ p in ap₂ (λ (x : Value) (i : ℕ). Ok (x, i)) (sym a ∙ q.0) (b ∙ q.1)
 
 -- ---- whatever labels mean, and however many parentheses may open, the form is the same but for depth
 

@@ -1,5 +1,6 @@
 -- Laws of numbers and labels: digits of any length, and what does not depend on the labels.
 -- Assumes nothing.
+use Rattle.std.specs.Prelude.{None, Ok, Err}
 use Prim.Native.Nat.{ℕ, ◌+◌, ◌*◌, ◌<◌, ◌≤◌}
 use mathlib.Core.Path.{◌≡◌, refl, sym, ap, ◌∙◌}
 use mathlib.Core.Bool.{Bool, true, false, cond}
@@ -10,9 +11,7 @@ use lib.Dec.{leb, ltb}
 use borrow.Author.Tests.{leb-false, lt-ltb}
 use lib.ListN.{length, get_or, drop}
 use Rattle.text.specs.Digits.{value_of, digits_read}
-use Rattle.text.specs.declared.Read.{Read as Digits}
 use Rattle.text.proofs.Laws.{number_on, number_stop, number_none}
-use Rattle.expr.specs.declared.Read.{Read}
 use Rattle.expr.specs.declared.Fault.{Fault}
 use Rattle.expr.specs.Value.{written}
 use Rattle.expr.specs.Expr.{counted}
@@ -29,7 +28,7 @@ unfolding counted digits_read written
 stays_large n b hb [] v w h k = rw (lt-ltb _ _ h, lt-ltb _ _ k)
 stays_large n b hb (c ∷ l) v w h k = go (ltb (value_of c) b) (stays_large n b hb l (v * b + value_of c) (w * b + value_of c) (grows v b (value_of c) hb h) (grows w b (value_of c) hb k))
   where
-    go : (t : Bool) → counted n (digits_read b (v * b + value_of c) l) ≡ counted n (digits_read b (w * b + value_of c) l) → counted n (cond t (digits_read b (v * b + value_of c) l) Digits.Nothing) ≡ counted n (cond t (digits_read b (w * b + value_of c) l) Digits.Nothing)
+    go : (t : Bool) → counted n (digits_read b (v * b + value_of c) l) ≡ counted n (digits_read b (w * b + value_of c) l) → counted n (cond t (digits_read b (v * b + value_of c) l) None) ≡ counted n (cond t (digits_read b (w * b + value_of c) l) None)
     go true e = e
     go false e = refl
 
@@ -43,10 +42,10 @@ module _ (n : ℕ) (l : List ℕ) (i : ℕ) (h : i < length l) (b v d : ℕ) (e 
           let q : 2147483647 < v = leb-false _ _ p in
           stays_large n b hb (drop (i + 1) l) (v * b + d) v (grows v b d hb q) q
 
-  pub digit_stop : b ≤ d → counted n (digits_read b v (drop i l)) ≡ Read.Not Fault.Form
+  pub digit_stop : b ≤ d → counted n (digits_read b v (drop i l)) ≡ Err Fault.Form
   unfolding counted
   digit_stop k = rw (number_stop l i h b v d e k)
 
-pub digit_none : (n : ℕ) (l : List ℕ) (i : ℕ) → length l ≤ i → (b v : ℕ) → counted n (digits_read b v (drop i l)) ≡ Read.Got (written v) n
+pub digit_none : (n : ℕ) (l : List ℕ) (i : ℕ) → length l ≤ i → (b v : ℕ) → counted n (digits_read b v (drop i l)) ≡ Ok (written v, n)
 unfolding counted
 digit_none n l i h b v = rw (number_none l i h b v)

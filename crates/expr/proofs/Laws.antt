@@ -1,17 +1,19 @@
 -- Laws that the functions' proofs cite.
 -- Assumes nothing.
+use Rattle.std.specs.Prelude.{Ok, Err}
 use Prim.Native.Nat.{ℕ, zero, suc, ◌+◌, ◌-◌, ◌<◌, ◌≤◌}
 use mathlib.Core.Path.{◌≡◌, refl, sym, ap, ◌∙◌}
 use mathlib.Core.Bool.{Bool, true, false}
 use mathlib.Core.List.{List, [], ◌∷◌}
 use native.Mathlib.Numerals.{add-one}
 use native.Mathlib.Omega.{arith}
-use borrow.Author.Tests.{eq-eqb, ne_eqb}
+use lib.Dec.{ltb}
+use borrow.Author.Tests.{ltb-true, ltb-false, eq-eqb, ne_eqb}
 use lib.ListN.{length, get_or, take, drop, length-drop, drop_of_length-le}
 use lib.Seq.{take_all, drop-cons, drop-drop, get_or-drop}
-use Rattle.expr.specs.Expr.{Labels, onward, joined_of, chain_of, items_of, sign_of, signed_of, closed_of, leaf_of, plain_with, operand_with, sum_with, inside_of, operand_of, sum_of}
+use Rattle.expr.specs.Expr.{Labels, size_of, adds, multiplies, onward, joined_of, chain_of, items_of, sign_of, signed_of, closed_of, leaf_of, plain_with, operand_with, sum_with, inside_of, operand_of, sum_of}
 use Rattle.expr.specs.declared.Value.{Value}
-use Rattle.expr.specs.declared.Read.{Read}
+use Rattle.expr.specs.Expr.{Read}
 use Rattle.expr.specs.declared.Fault.{Fault}
 
 -- past the end there is 0, and what is not 0 stands before the end
@@ -47,21 +49,54 @@ module _ (joins : ℕ → Bool) (item : List ℕ → Read) where
   chain_pass v n (suc k) (c ∷ s) = chain_pass v n k s
 
   module _ (l : List ℕ) (i : ℕ) (h : i < length l) where
-    pub chain_stop : (v : Value) (n : ℕ) → joins (get_or l i 0) ≡ false → chain_of joins item v n 0 (drop i l) ≡ Read.Got v n
+    pub chain_stop : (v : Value) (n : ℕ) → joins (get_or l i 0) ≡ false → chain_of joins item v n 0 (drop i l) ≡ Ok (v, n)
     unfolding chain_of
     chain_stop v n e = rw (next l i h, e)
 
-    pub chain_on : (v x : Value) (n m : ℕ) → joins (get_or l i 0) ≡ true → joined_of (get_or l i 0) v (item (drop (i + 1) l)) ≡ Read.Got x m → chain_of joins item v n 0 (drop i l) ≡ chain_of joins item x (n + 1 + m) 0 (drop (i + 1 + m) l)
+    pub chain_on : (v x : Value) (n m : ℕ) → joins (get_or l i 0) ≡ true → joined_of (get_or l i 0) v (item (drop (i + 1) l)) ≡ Ok (x, m) → chain_of joins item v n 0 (drop i l) ≡ chain_of joins item x (n + 1 + m) 0 (drop (i + 1 + m) l)
     unfolding chain_of onward
     chain_on v x n m e f = rw (next l i h, e, f) (chain_pass x (n + 1 + m) m (drop (i + 1) l) ∙ rw (drop-drop))
 
-    pub chain_not : (v : Value) (n : ℕ) (e : Fault) → joins (get_or l i 0) ≡ true → joined_of (get_or l i 0) v (item (drop (i + 1) l)) ≡ Read.Not e → chain_of joins item v n 0 (drop i l) ≡ Read.Not e
+    pub chain_not : (v : Value) (n : ℕ) (e : Fault) → joins (get_or l i 0) ≡ true → joined_of (get_or l i 0) v (item (drop (i + 1) l)) ≡ Err e → chain_of joins item v n 0 (drop i l) ≡ Err e
     unfolding chain_of onward
     chain_not v n e t f = rw (next l i h, t, f)
 
-  pub chain_none : (v : Value) (n : ℕ) (l : List ℕ) (i : ℕ) → length l ≤ i → chain_of joins item v n 0 (drop i l) ≡ Read.Got v n
+  pub chain_none : (v : Value) (n : ℕ) (l : List ℕ) (i : ℕ) → length l ≤ i → chain_of joins item v n 0 (drop i l) ≡ Ok (v, n)
   unfolding chain_of
   chain_none v n l i h = rw (drop_of_length-le l h)
+
+-- past the end or at a byte that doesn't join
+pub chain_over : (joins : ℕ → Bool) (item : List ℕ → Read) (l : List ℕ) (i : ℕ) (v : Value) (n : ℕ) → joins (get_or l i 0) ≡ false → chain_of joins item v n 0 (drop i l) ≡ Ok (v, n)
+chain_over joins item l i v n e = go (ltb i (length l)) refl
+  where
+    go : (t : Bool) → ltb i (length l) ≡ t → chain_of joins item v n 0 (drop i l) ≡ Ok (v, n)
+    go true p = chain_stop joins item l i (ltb-true _ _ p) v n e
+    go false p = chain_none joins item v n l i (ltb-false _ _ p)
+
+-- two readings that are the same are of one value, and of as many bytes
+value_of : Read → Value
+value_of (Ok (v, n)) = v
+value_of (Err e) = Value.Unknown
+
+pub got_same : (v w : Value) (n m : ℕ) → ◌≡◌ {A = Read} (Ok (v, n)) (Ok (w, m)) → (v ≡ w) × (n ≡ m)
+unfolding value_of size_of
+got_same v w n m e = (ap value_of e, ap size_of e)
+
+-- ---- where a chain of factors or of terms goes on
+
+pub factor_there : (s : List ℕ) (i b : ℕ) → b ≡ get_or s i 0 → b ≡ 42 → (i < length s) × (multiplies (get_or s i 0) ≡ true)
+factor_there s i b e f = (within s i (λ z. omega (arith, e ∙ z, f)), ap multiplies (sym e ∙ f))
+
+pub term_there : (s : List ℕ) (i b : ℕ) (r : Bool) → b ≡ get_or s i 0 → r ≡ adds b → r ≡ true → (i < length s) × (adds (get_or s i 0) ≡ true)
+term_there s i b r e f g =
+    let t : adds (get_or s i 0) ≡ true = ap adds (sym e) ∙ sym f ∙ g in
+    (within s i (λ z. let k : false ≡ true = ap adds (sym z) ∙ t in let n : ◌≡◌ {A = ℕ} 0 1 = cc in omega arith), t)
+
+pub no_factor : (s : List ℕ) (i b : ℕ) → b ≡ get_or s i 0 → (b ≡ 42 → ⊥) → multiplies (get_or s i 0) ≡ false
+no_factor s i b e f = ap multiplies (sym e) ∙ ne_eqb b 42 f
+
+pub no_term : (s : List ℕ) (i b : ℕ) (r : Bool) → b ≡ get_or s i 0 → r ≡ adds b → r ≡ false → adds (get_or s i 0) ≡ false
+no_term s i b r e f g = ap adds (sym e) ∙ sym f ∙ g
 
 -- ---- a byte that is there
 
@@ -72,19 +107,19 @@ byte_within s i b e f = within s i (λ z. f (e ∙ z))
 
 pub unsigned : (x : Read) → signed_of 0 x ≡ x
 unfolding signed_of
-unsigned (Read.Not e) = refl
-unsigned (Read.Got v n) = refl
+unsigned (Err e) = refl
+unsigned (Ok (v, n)) = refl
 
 module _ (joins : ℕ → Bool) (item : List ℕ → Read) (s : List ℕ) where
-  pub items_got : (v : Value) (n : ℕ) → item s ≡ Read.Got v n → items_of joins item s ≡ chain_of joins item v n 0 (drop n s)
+  pub items_got : (v : Value) (n : ℕ) → item s ≡ Ok (v, n) → items_of joins item s ≡ chain_of joins item v n 0 (drop n s)
   unfolding items_of onward
   items_got v n e = rw e (chain_pass joins item v n n s)
 
   -- what is all of the text has nothing to join
-  pub items_all : (v : Value) (n : ℕ) → length s ≤ n → item s ≡ Read.Got v n → items_of joins item s ≡ Read.Got v n
+  pub items_all : (v : Value) (n : ℕ) → length s ≤ n → item s ≡ Ok (v, n) → items_of joins item s ≡ Ok (v, n)
   items_all v n h e = items_got v n e ∙ chain_none joins item v n s n h
 
-  pub items_not : (e : Fault) → item s ≡ Read.Not e → items_of joins item s ≡ Read.Not e
+  pub items_not : (e : Fault) → item s ≡ Err e → items_of joins item s ≡ Err e
   unfolding items_of onward
   items_not e h = rw h
 
@@ -93,7 +128,7 @@ unfolding inside_of sum_of
 inside_more t s zero f = absurd (f refl)
 inside_more t s (suc m) f = let e : m ≡ suc m - 1 = omega arith in ap (λ (n : ℕ). sum_with (inside_of t n) t s) e
 
-inside_none : (t : Labels) (s : List ℕ) (more : ℕ) → more ≡ 0 → inside_of t more s ≡ Read.Not Fault.Deep
+inside_none : (t : Labels) (s : List ℕ) (more : ℕ) → more ≡ 0 → inside_of t more s ≡ Err Fault.Deep
 unfolding inside_of
 inside_none t s more e = rw e
 
@@ -109,7 +144,7 @@ module _ (t : Labels) (s : List ℕ) (more k b : ℕ) (hk : k ≡ sign_of s) (hb
   unfolding operand_of operand_with plain_with
   operand_deep f = rw (← hk, front, eq-eqb b 40 f) (ap (λ (l : List ℕ). signed_of k (closed_of l (inside_of t more l))) (drop-drop 1 k s))
 
-  pub operand_none : b ≡ 40 → more ≡ 0 → operand_of t more s ≡ Read.Not Fault.Deep
+  pub operand_none : b ≡ 40 → more ≡ 0 → operand_of t more s ≡ Err Fault.Deep
   unfolding signed_of closed_of
   operand_none f e = operand_deep f ∙ rw (inside_none t (drop (k + 1) s) more e)
 
@@ -127,8 +162,8 @@ module _ (joins : ℕ → Bool) (item : List ℕ → Read) (l : List ℕ) (i : �
   made : joined_of (get_or l i 0) v (item (drop (i + 1) l)) ≡ w
   made = sym (hw ∙ ap (λ (z : Read). joined_of (get_or l i 0) v z) (hu ∙ ap item (rest_of l (i + 1))))
 
-  pub chain_turn : (x : Value) (m : ℕ) → w ≡ Read.Got x m → chain_of joins item v i 0 (drop i l) ≡ chain_of joins item x (i + 1 + m) 0 (drop (i + 1 + m) l)
+  pub chain_turn : (x : Value) (m : ℕ) → w ≡ Ok (x, m) → chain_of joins item v i 0 (drop i l) ≡ chain_of joins item x (i + 1 + m) 0 (drop (i + 1 + m) l)
   chain_turn x m e = chain_on joins item l i h v x i m t (made ∙ e)
 
-  pub chain_fault : (e : Fault) → w ≡ Read.Not e → chain_of joins item v i 0 (drop i l) ≡ Read.Not e
+  pub chain_fault : (e : Fault) → w ≡ Err e → chain_of joins item v i 0 (drop i l) ≡ Err e
   chain_fault e g = chain_not joins item l i h v i e t (made ∙ g)

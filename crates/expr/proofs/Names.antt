@@ -1,23 +1,29 @@
 -- Laws of names: the letters and digits that lead, and a name's number.
 -- Assumes nothing.
 use Prim.Native.Nat.{ℕ, zero, suc, ◌+◌, ◌*◌, ◌-◌, ◌^◌, ◌<◌, ◌≤◌}
-use mathlib.Core.Path.{◌≡◌, refl, sym, ap, ap₂, subst, ◌∙◌}
-use mathlib.Core.Bool.{Bool, true, false, cond, ◌&&◌, ◌||◌}
+use Prim.Native.Nat.compare.{suc-suc}
+use mathlib.Core.Path.{◌≡◌, refl, sym, ap, ap₂, ◌∙◌}
+use mathlib.Core.Bool.{Bool, true, false, cond, ◌&&◌}
 use mathlib.Core.List.{List, [], ◌∷◌}
 use native.Mathlib.Omega.{arith}
 use lib.Dec.{eqb, leb, ltb}
-use borrow.Author.Tests.{le-leb, lt-leb, ltb-true, ltb-false, leb-true, eqb-true, ne_eqb, eq-eqb}
+use borrow.Author.Tests.{le-leb, lt-leb, lt-ltb, ltb-true, ltb-false, leb-true, leb-false, eqb-true, ne_eqb, eq-eqb}
 use native.Mathlib.Nat.{pow-le-pow_right}
 use lib.Pow.{pow-add}
 use lib.ListN.{length, get_or, take, drop, length-take, length-drop, drop_of_length-le}
-use lib.Seq.{length-take-le}
+use native.Mathlib.Nat.{le_refl}
+use lib.Seq.{length-take-le, take_all}
+use Rattle.std.specs.Prelude.{Option, Some, None, Ok, Err}
+use Rattle.std.specs.Option.{option_map, option_map_or}
+use Rattle.expr.specs.declared.Value.{Value}
+use Rattle.expr.specs.Value.{signed_word}
+use Rattle.expr.specs.Parts.{named, led_by}
+use Rattle.std.specs.List.{find}
+use Rattle.expr.specs.declared.Entry.{Entry}
 use Rattle.expr.specs.declared.Fault.{Fault}
-use Rattle.expr.specs.declared.Read.{Read}
-use Rattle.expr.specs.Expr.{is_letter, is_digit, run_of, rank_of, key_from, is_name, Labels, index_of, meaning, is_hex, number_read, word_read, leaf_of}
+use Rattle.expr.specs.Expr.{Read}
+use Rattle.expr.specs.Expr.{is_letter, is_digit, run_of, rank_of, key_from, is_name, Labels, labels_in, names, index_of, found, meaning, is_hex, number_read, word_read, leaf_of}
 use Rattle.expr.proofs.Laws.{next}
-
-abbrev pub named : ℕ → Bool
-named c = is_letter c || is_digit c
 
 -- ---- how far the name reaches
 
@@ -57,49 +63,19 @@ run_most (c ∷ s) = go (named c) (run_most s)
 pub size_in : (s : List ℕ) (n x : ℕ) → x ≤ length (take n s) → x ≤ length s
 size_in s n x h = let k = rw length-take at h in omega arith
 
--- ---- where a number stands first
+-- ---- the first label of a name
 
-module _ (l : List ℕ) (k i : ℕ) (inv : index_of l k ≡ index_of (drop i l) k + i) where
-  pub index_more : i < length l → (get_or l i 0 ≡ k → ⊥) → index_of l k ≡ index_of (drop (i + 1) l) k + (i + 1)
-  unfolding index_of
-  index_more h e = let z : index_of (drop i l) k ≡ suc (index_of (drop (i + 1) l) k) = rw (next l i h, ne_eqb _ _ e) in omega arith
-
-  pub index_here : i < length l → get_or l i 0 ≡ k → i ≡ index_of l k
-  unfolding index_of
-  index_here h e = let z : index_of (drop i l) k ≡ 0 = rw (next l i h, eq-eqb _ _ e) in omega arith
-
-  pub index_end : length l ≤ i → i ≡ index_of l k
-  unfolding index_of
-  index_end h = let z : index_of (drop i l) k ≡ 0 = rw (drop_of_length-le l h) in omega arith
-
--- the same of four places, one after the other
-module _ (l : List ℕ) (k i : ℕ) (inv : index_of l k ≡ index_of (drop i l) k + i) (h : i + 3 < length l) where
-  abbrev At : ℕ → Type 0
-  At n = index_of l k ≡ index_of (drop n l) k + n
-
-  module _ (a : get_or l i 0 ≡ k → ⊥) where
-    one : At (i + 1)
-    one = index_more l k i inv (omega arith) a
-
-    pub index_second : get_or l (i + 1) 0 ≡ k → i + 1 ≡ index_of l k
-    index_second e = index_here l k (i + 1) one (omega arith) e
-
-    module _ (b : get_or l (i + 1) 0 ≡ k → ⊥) where
-      two : At (i + 2)
-      two = let e : i + 1 + 1 ≡ i + 2 = omega arith in subst At e (index_more l k (i + 1) one (omega arith) b)
-
-      pub index_third : get_or l (i + 2) 0 ≡ k → i + 2 ≡ index_of l k
-      index_third e = index_here l k (i + 2) two (omega arith) e
-
-      module _ (c : get_or l (i + 2) 0 ≡ k → ⊥) where
-        three : At (i + 3)
-        three = let e : i + 2 + 1 ≡ i + 3 = omega arith in subst At e (index_more l k (i + 2) two (omega arith) c)
-
-        pub index_fourth : get_or l (i + 3) 0 ≡ k → i + 3 ≡ index_of l k
-        index_fourth e = index_here l k (i + 3) three h e
-
-        pub index_none : (get_or l (i + 3) 0 ≡ k → ⊥) → index_of l k ≡ index_of (drop (i + 4) l) k + (i + 4)
-        index_none d = let e : i + 3 + 1 ≡ i + 4 = omega arith in subst At e (index_more l k (i + 3) three h d)
+-- a look-up in the list of labels means what one in both lists does
+pub found_means : (l : List Entry) (k : ℕ) → option_map_or (λ (n : ℕ). Value.Is (signed_word n)) (found l k) Value.Unknown ≡ meaning (labels_in l) k
+unfolding meaning index_of
+found_means [] k = refl
+found_means (x ∷ l) k = go (eqb x.name k) (found_means l k)
+  where
+    go : (t : Bool) → option_map_or (λ (n : ℕ). Value.Is (signed_word n)) (found l k) Value.Unknown ≡ meaning (labels_in l) k
+        → option_map_or (λ (n : ℕ). Value.Is (signed_word n)) (option_map (λ (y : Entry). y.place) (cond t (Some x) (find (λ (y : Entry). eqb y.name k) l))) Value.Unknown
+        ≡ cond (ltb (cond t 0 (suc (index_of (names l) k))) (suc (length (names l)))) (Value.Is (signed_word (get_or (x.place ∷ (labels_in l).places) (cond t 0 (suc (index_of (names l) k))) 0))) Value.Unknown
+    go true h = rw (lt-ltb 0 (suc (length (names l))) (omega arith))
+    go false h = rw suc-suc h
 
 -- ---- a letter's or digit's worth
 
@@ -142,20 +118,20 @@ rank_of_lem c e = go (is_letter c) refl
     go true p = let r = letter_range c p in (omega arith, omega arith)
     go false p = let r = digit_range c (or_digit c e p) in (omega arith, omega arith)
 
--- a rank is above 0 exactly if the byte is a letter or a digit
-module _ (c r : ℕ) (e : r ≡ cond (named c) (rank_of c) 0) where
-  pub rank_some : (r ≡ 0 → ⊥) → (named c ≡ true) × (r ≡ rank_of c)
-  rank_some f = go (named c) refl e
+-- a byte has a rank exactly if it is a letter or a digit
+module _ (c : ℕ) (o : Option ℕ) (e : o ≡ cond (named c) (Some (rank_of c)) None) where
+  pub rank_some : (r : ℕ) → o ≡ Some r → (named c ≡ true) × (r ≡ rank_of c)
+  rank_some r f = go (named c) refl e
     where
-      go : (t : Bool) → named c ≡ t → r ≡ cond t (rank_of c) 0 → (named c ≡ true) × (r ≡ rank_of c)
-      go true p q = (p, q)
-      go false p q = absurd (f q)
+      go : (t : Bool) → named c ≡ t → o ≡ cond t (Some (rank_of c)) None → (named c ≡ true) × (r ≡ rank_of c)
+      go true p q = (p, cc)
+      go false p q = let z : ◌≡◌ {A = ℕ} 0 1 = cc in absurd (omega arith)
 
-  pub rank_none : r ≡ 0 → named c ≡ false
+  pub rank_none : o ≡ None → named c ≡ false
   rank_none f = go (named c) refl e
     where
-      go : (t : Bool) → named c ≡ t → r ≡ cond t (rank_of c) 0 → named c ≡ false
-      go true p q = let h = rank_of_lem c p in absurd (omega arith)
+      go : (t : Bool) → named c ≡ t → o ≡ cond t (Some (rank_of c)) None → named c ≡ false
+      go true p q = let z : ◌≡◌ {A = ℕ} 0 1 = cc in absurd (omega arith)
       go false p q = p
 
 -- ---- a name's number
@@ -177,33 +153,84 @@ pub lead_end : (l : List ℕ) (i : ℕ) → length l ≤ i → (v : ℕ) → key
 unfolding key_from run_of
 lead_end l i h v = rw (drop_of_length-le l h)
 
--- what a text says that a letter leads: its name has the number v
-module _ (t : Labels) (s : List ℕ) (e : is_letter (get_or s 0 0) ≡ true) where
-  pub name_leaf : (v i : ℕ) → i ≡ run_of s → v ≡ key_from 0 (lead s 0) → i ≤ 12 → Read.Got (meaning t v) i ≡ leaf_of t s
-  unfolding leaf_of word_read
-  name_leaf v i p q h =
-      let k : run_of s ≤ 12 = omega arith in
-      rw (first_named s e, length-take-le (run_of s) s (run_most s), le-leb (run_of s) 12 k, p, q)
+-- what is found of the letters and digits that lead
+module _ (s : List ℕ) where
+  pub led_here : (v i : ℕ) → i ≡ run_of s → v ≡ key_from 0 (lead s 0) → i ≤ 12 → Some (v, i) ≡ led_by s
+  unfolding led_by
+  led_here v i p q h = let k : run_of s ≤ 12 = omega arith in rw (le-leb (run_of s) 12 k, p, q)
 
-  pub name_long : (i : ℕ) → i < run_of s → 12 ≤ i → Read.Not Fault.Form ≡ leaf_of t s
-  unfolding leaf_of word_read
-  name_long i p h =
-      let k : 12 < run_of s = omega arith in
-      rw (first_named s e, length-take-le (run_of s) s (run_most s), lt-leb (run_of s) 12 k)
+  pub led_long : (i : ℕ) → i < run_of s → 12 ≤ i → None ≡ led_by s
+  unfolding led_by
+  led_long i p h = let k : 12 < run_of s = omega arith in rw (lt-leb (run_of s) 12 k)
+
+  pub led_some : (v n : ℕ) → led_by s ≡ Some (v, n) → (run_of s ≤ 12) × (v ≡ key_from 0 (lead s 0)) × (n ≡ run_of s)
+  unfolding led_by
+  led_some v n h = go (leb (run_of s) 12) refl h
+    where
+      go : (t : Bool) → leb (run_of s) 12 ≡ t → cond {A = Option (ℕ × ℕ)} t (Some (key_from 0 (lead s 0), run_of s)) None ≡ Some (v, n) → (run_of s ≤ 12) × (v ≡ key_from 0 (lead s 0)) × (n ≡ run_of s)
+      go true p q =
+          let e = λ (o : Option (ℕ × ℕ)). option_map_or (λ (x : ℕ × ℕ). x) o (0, 0) in
+          (leb-true _ _ p, ap (λ (o : Option (ℕ × ℕ)). (e o).0) (sym q), ap (λ (o : Option (ℕ × ℕ)). (e o).1) (sym q))
+      go false p q = let z : ◌≡◌ {A = ℕ} 0 1 = cc in absurd (omega arith)
+
+  led_none : led_by s ≡ None → 12 < run_of s
+  unfolding led_by
+  led_none h = go (leb (run_of s) 12) refl h
+    where
+      go : (t : Bool) → leb (run_of s) 12 ≡ t → cond {A = Option (ℕ × ℕ)} t (Some (key_from 0 (lead s 0), run_of s)) None ≡ None → 12 < run_of s
+      go true p q = let z : ◌≡◌ {A = ℕ} 0 1 = cc in absurd (omega arith)
+      go false p q = leb-false _ _ p
+
+  -- what a text says that a letter leads
+  module _ (t : Labels) (e : is_letter (get_or s 0 0) ≡ true) where
+    pub word_some : (v n : ℕ) → led_by s ≡ Some (v, n) → Ok (meaning t v, n) ≡ leaf_of t s
+    unfolding leaf_of word_read
+    word_some v n h =
+        let k = led_some v n h in
+        rw (first_named s e, length-take-le (run_of s) s (run_most s), le-leb (run_of s) 12 k.0, k.1, k.2)
+
+    pub word_none : led_by s ≡ None → Err Fault.Form ≡ leaf_of t s
+    unfolding leaf_of word_read
+    word_none h =
+        let k : 12 < run_of s = led_none h in
+        rw (first_named s e, length-take-le (run_of s) s (run_most s), lt-leb (run_of s) 12 k)
+
+  -- and whether all of it is a name
+  pub named_whole : (v n : ℕ) → led_by s ≡ Some (v, n) → n ≡ length s → is_letter (get_or s 0 0) ≡ true → v ≡ cond (is_name s) (key_from 0 s) 0
+  named_whole v n h e f =
+      let k = led_some v n h in
+      let r : run_of s ≡ length s = sym k.2 ∙ e in
+      let m : length s ≤ 12 = omega (arith, k.0) in
+      rw (f, eq-eqb _ _ r, le-leb _ 12 m, k.1, r, take_all (length s) s (le_refl (length s)))
+
+  pub named_other : is_letter (get_or s 0 0) ≡ false → 0 ≡ cond (is_name s) (key_from 0 s) 0
+  named_other f = rw f
+
+  pub named_part : (v n : ℕ) → led_by s ≡ Some (v, n) → (n ≡ length s → ⊥) → 0 ≡ cond (is_name s) (key_from 0 s) 0
+  named_part v n h e =
+      let k = led_some v n h in
+      let f : run_of s ≡ length s → ⊥ = λ z. e (k.2 ∙ z) in
+      go (is_letter (get_or s 0 0)) (eqb (run_of s) (length s)) (ne_eqb _ _ f)
+    where
+      go : (a b : Bool) → b ≡ false → 0 ≡ cond ((a && b) && leb (length s) 12) (key_from 0 s) 0
+      go true true p = let z : ◌≡◌ {A = ℕ} 0 1 = cc in absurd (omega arith)
+      go true false p = refl
+      go false b p = refl
+
+  pub named_long : led_by s ≡ None → 0 ≡ cond (is_name s) (key_from 0 s) 0
+  named_long h =
+      let k = led_none h in
+      let m = run_most s in
+      go (is_letter (get_or s 0 0) && eqb (run_of s) (length s)) (leb (length s) 12) (lt-leb _ 12 (omega arith))
+    where
+      go : (a b : Bool) → b ≡ false → 0 ≡ cond (a && b) (key_from 0 s) 0
+      go true b p = rw p
+      go false b p = refl
 
 -- a text that no letter leads is a number's
 pub other_leaf : (t : Labels) (s : List ℕ) (n : ℕ) (r : Read) → is_letter (get_or s 0 0) ≡ false → n ≡ run_of s → r ≡ number_read (take n s) → r ≡ leaf_of t s
 unfolding leaf_of word_read
 other_leaf t s n r e p q = rw (q, p, first_other s (run_of s) e)
-
-module _ (l : List ℕ) (i : ℕ) where
-  pub key_on : i < length l → (v r : ℕ) → r ≡ rank_of (get_or l i 0) → key_from v (drop i l) ≡ key_from (v * 37 + r) (drop (i + 1) l)
-  unfolding key_from
-  key_on h v r e = rw (next l i h, e)
-
-  pub key_end : length l ≤ i → (v : ℕ) → key_from v (drop i l) ≡ v
-  unfolding key_from
-  key_end h v = rw (drop_of_length-le l h)
 
 pub key_more : (v i r : ℕ) → v < 37 ^ i → r ≤ 36 → v * 37 + r < 37 ^ (i + 1)
 key_more v i r h k = let p : 37 ^ (i + 1) ≡ 37 ^ i * 37 = pow-add 37 i 1 in omega arith
@@ -286,15 +313,6 @@ key_differs a b p q e = go (ltb (length a) (length b)) (ltb (length b) (length a
     go false false f g = let x = ltb-false (length a) (length b) f in let y = ltb-false (length b) (length a) g in (key_same a b 0 0 p q (omega arith) e).1
 
 -- what makes a name
--- a name's number is that of its letters and digits, where they are few enough
-pub name_short : (t : Bool) (k : ℕ) → cond t k 0 ≡ cond (t && true) k 0
-name_short true k = refl
-name_short false k = refl
-
-pub name_none : (t : Bool) (k : ℕ) → 0 ≡ cond (t && false) k 0
-name_none true k = refl
-name_none false k = refl
-
 pub name_parts : (s : List ℕ) → is_name s ≡ true → (0 < length s) × (run_of s ≡ length s) × (length s ≤ 12)
 name_parts s e =
     let f = flags _ (leb (length s) 12) e in

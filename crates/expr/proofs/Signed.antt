@@ -8,8 +8,10 @@ use native.Mathlib.Omega.{arith}
 use lib.Dec.{ltb}
 use lib.IntN.{ℤ, pos, negsuc, sub_ℕ, neg_ℤ, ◌+ℤ◌, ◌-ℤ◌, ◌*ℤ◌}
 use lib.Signed.{mag, lt_z}
-use borrow.Author.Tests.{ltb-false}
-use mir.Val.{SFits}
+use borrow.Author.Tests.{ltb-false, le-ltb}
+use mir.Val.{SFits, to_z}
+use Rattle.expr.specs.declared.Value.{Value}
+use Rattle.expr.specs.Value.{fitted, signed_word, written}
 use mir.Syntax.{w32, w64}
 
 pub wider : (z : ℤ) → SFits w32 z → SFits w64 z
@@ -72,3 +74,35 @@ module _ (a b : ℤ) (f : SFits w32 a) (g : SFits w32 b) where
 pub less_one : (k : ℕ) → negsuc 0 -ℤ pos k ≡ negsuc k
 less_one zero = refl
 less_one (suc j) = ap negsuc (omega arith)
+
+-- 32 bits read as a signed value, as the code reads them
+pub signed_bits : (n : ℕ) → to_z w32 n ≡ signed_word n
+unfolding signed_word
+signed_bits n = let e : 4294967296 - suc n ≡ 4294967295 - n = omega arith in ap (λ (k : ℕ). cond (ltb n 2147483648) (pos n) (negsuc k)) e
+
+-- a value fits exactly if it is one of 32 bits
+pub fits_fitted : (z : ℤ) → SFits w32 z → Value.Is z ≡ fitted z
+unfolding fitted
+fits_fitted (pos n) f = let h : n ≤ 2147483647 = (let k = f.sfits in omega arith) in rw (le-ltb _ _ h)
+fits_fitted (negsuc n) f = let h : n ≤ 2147483647 = (let k = f.sfits in omega arith) in rw (le-ltb _ _ h)
+
+pub unfit_large : (z : ℤ) → (SFits w32 z → ⊥) → Value.Large ≡ fitted z
+unfolding fitted
+unfit_large z f = go (lt_z z (negsuc 2147483647)) (lt_z (pos 2147483647) z) refl refl
+  where
+    go : (a b : Bool) → lt_z z (negsuc 2147483647) ≡ a → lt_z (pos 2147483647) z ≡ b → Value.Large ≡ cond a Value.Large (cond b Value.Large (Value.Is z))
+    go true b p q = refl
+    go false true p q = refl
+    go false false p q = absurd (f (record { sfits = within32 z p q }))
+
+pub fits_written : (n : ℕ) → SFits w32 (pos n) → Value.Is (pos n) ≡ written n
+unfolding written
+fits_written n f = let h : n ≤ 2147483647 = (let k = f.sfits in omega arith) in rw (le-ltb _ _ h)
+
+pub unfit_written : (n : ℕ) → (SFits w32 (pos n) → ⊥) → Value.Large ≡ written n
+unfolding written
+unfit_written n f = go (ltb 2147483647 n) refl
+  where
+    go : (t : Bool) → ltb 2147483647 n ≡ t → Value.Large ≡ cond t Value.Large (Value.Is (pos n))
+    go true p = refl
+    go false p = let h = ltb-false _ _ p in absurd (f (record { sfits = omega arith }))

@@ -1,5 +1,6 @@
 -- What the definitions say: the equations of the grammar, parentheses, names, depth, and worked examples.
 -- Assumes nothing.
+use Rattle.std.specs.Prelude.{Ok, Err}
 use Prim.Native.Nat.{ℕ, suc, ◌+◌, ◌^◌, ◌<◌, ◌≤◌}
 use Prim.Native.String.{String}
 use mathlib.Core.Logic.{◌⊎◌, inl, inr}
@@ -15,7 +16,7 @@ use Rattle.text.specs.Words.{ascii}
 use Rattle.text.specs.Digits.{value_of as worth, digits_read}
 use Rattle.expr.specs.declared.Value.{Value}
 use Rattle.expr.specs.declared.Fault.{Fault}
-use Rattle.expr.specs.declared.Read.{Read}
+use Rattle.expr.specs.Expr.{Read}
 use Rattle.expr.specs.Value.{fitted, applied, combined, signed_word, written}
 use Rattle.expr.specs.Expr.{Labels, labels, none, run_of, key_from, key_of, is_name, index_of, meaning, onward, counted, word_read, leaf_of, joined_of, chain_of, items_of, adds, multiplies, sign_of, signed_of, closed_of, plain_with, operand_with, product_with, sum_with, inside_of, operand_of, product_of, sum_of, value_of, is_whole, is_sum}
 use Rattle.expr.proofs.Laws.{unsigned, items_all}
@@ -46,7 +47,7 @@ module _ (t : Labels) (more : ℕ) (s : List ℕ) where
   operand_minus_opens = refl
 
   -- where none may open, ( is too deep
-  pub operand_deep : operand_of t 0 (40 ∷ s) ≡ Read.Not Fault.Deep
+  pub operand_deep : operand_of t 0 (40 ∷ s) ≡ Err Fault.Deep
   unfolding operand_of operand_with plain_with sign_of inside_of signed_of closed_of
   operand_deep = refl
 
@@ -61,7 +62,7 @@ module _ (t : Labels) (more : ℕ) (s : List ℕ) where
   operand_minus_leaf f = rw (ne_eqb _ _ f)
 
 -- parentheses round a whole expression do not change its value
-pub parentheses : (t : Labels) (more : ℕ) (s : List ℕ) (v : Value) → sum_of t more s ≡ Read.Got v (length s) → sum_of t (suc more) ((40 ∷ s) ++ (41 ∷ [])) ≡ Read.Got v (length s + 2)
+pub parentheses : (t : Labels) (more : ℕ) (s : List ℕ) (v : Value) → sum_of t more s ≡ Ok (v, length s) → sum_of t (suc more) ((40 ∷ s) ++ (41 ∷ [])) ≡ Ok (v, length s + 2)
 unfolding closed_of
 parentheses t more s v e =
     sum_of_products t (suc more) _ ∙ items_all adds (product_of t (suc more)) _ v (length s + 2) long
@@ -70,7 +71,7 @@ parentheses t more s v e =
     long : length ((40 ∷ s) ++ (41 ∷ [])) ≤ length s + 2
     long = rw length-append (omega arith)
 
-    inner : closed_of (s ++ (41 ∷ [])) (sum_of t more (s ++ (41 ∷ []))) ≡ Read.Got v (length s + 2)
+    inner : closed_of (s ++ (41 ∷ [])) (sum_of t more (s ++ (41 ∷ []))) ≡ Ok (v, length s + 2)
     inner = rw (sum_still t more s [] v (length s) e, get_or-append_seam s 41 [] 0)
 
 -- ---- names
@@ -88,21 +89,21 @@ name_number a e =
 -- ---- depth
 
 -- a sum is read whole or is too deep, and nothing else, whatever its labels mean and however many parentheses may open
-pub only_depth : (s : List ℕ) → is_sum s ≡ true → (t : Labels) (more : ℕ) → (sum_of t more s ≡ Read.Not Fault.Deep) ⊎ (is_whole s (sum_of t more s) ≡ true)
+pub only_depth : (s : List ℕ) → is_sum s ≡ true → (t : Labels) (more : ℕ) → (sum_of t more s ≡ Err Fault.Deep) ⊎ (is_whole s (sum_of t more s) ≡ true)
 unfolding is_sum is_whole
 only_depth s e t more = go (sum_of none (length s) s) (sum_of t more s) e (sum_form t more s)
   where
-    go : (x y : Read) → is_whole s x ≡ true → like any deep s x y → (y ≡ Read.Not Fault.Deep) ⊎ (is_whole s y ≡ true)
-    go (Read.Not f) y p h = absurd (let z : ◌≡◌ {A = ℕ} 0 1 = cc in omega arith)
-    go (Read.Got v n) (Read.Not Fault.Deep) p h = inl refl
-    go (Read.Got v n) (Read.Not Fault.Form) p h = absurd h
-    go (Read.Got v n) (Read.Got w m) p (a, b, c) = inr (rw b p)
+    go : (x y : Read) → is_whole s x ≡ true → like any deep s x y → (y ≡ Err Fault.Deep) ⊎ (is_whole s y ≡ true)
+    go (Err f) y p h = absurd (let z : ◌≡◌ {A = ℕ} 0 1 = cc in omega arith)
+    go (Ok (v, n)) (Err Fault.Deep) p h = inl refl
+    go (Ok (v, n)) (Err Fault.Form) p h = absurd h
+    go (Ok (v, n)) (Ok (w, m)) p (a, b, c) = inr (rw b p)
 
 -- ---- examples
 
 -- all of a text has a value, where there are no labels
 abbrev says : String → Value → Type 0
-says s v = value_of none (ascii s) ≡ Read.Got v (length (ascii s))
+says s v = value_of none (ascii s) ≡ Ok (v, length (ascii s))
 
 abbrev is : String → ℕ → Type 0
 is s n = says s (Value.Is (pos n))
@@ -118,11 +119,11 @@ unfolding fitted applied combined signed_word written worth digits_read run_of k
 example_size = (refl, refl, refl, refl)
 
 -- an unknown label is told before a value that does not fit, on either side; a label that is known has its place's value
-pub example_label : says "nolabel+99999999999" Value.Unknown × says "99999999999+nolabel" Value.Unknown × (value_of (labels (key_of (ascii "loop") ∷ []) (4294967292 ∷ [])) (ascii "8+loop") ≡ Read.Got (Value.Is (pos 4)) 6)
+pub example_label : says "nolabel+99999999999" Value.Unknown × says "99999999999+nolabel" Value.Unknown × (value_of (labels (key_of (ascii "loop") ∷ []) (4294967292 ∷ [])) (ascii "8+loop") ≡ Ok (Value.Is (pos 4), 6))
 unfolding fitted applied combined signed_word written worth digits_read run_of key_from index_of meaning onward counted word_read leaf_of joined_of chain_of items_of sign_of signed_of closed_of plain_with operand_with product_with sum_with inside_of sum_of value_of
 example_label = (refl, refl, refl)
 
 -- eight parentheses may be open, and not nine; the form is a sum's all the same
-pub example_depth : is "((((((((1))))))))" 1 × (value_of none (ascii "(((((((((1)))))))))") ≡ Read.Not Fault.Deep) × (is_sum (ascii "(((((((((1)))))))))") ≡ true)
+pub example_depth : is "((((((((1))))))))" 1 × (value_of none (ascii "(((((((((1)))))))))") ≡ Err Fault.Deep) × (is_sum (ascii "(((((((((1)))))))))") ≡ true)
 unfolding fitted applied combined signed_word written worth digits_read run_of key_from index_of meaning onward counted word_read leaf_of joined_of chain_of items_of sign_of signed_of closed_of plain_with operand_with product_with sum_with inside_of sum_of value_of is_whole is_sum
 example_depth = (refl, refl, refl)

@@ -1,6 +1,8 @@
 -- The walk over a text is the grammar: laws of its steps, and that it reads an operand, a product and a sum as the definition does.
 -- Assumes nothing.
+use Rattle.std.specs.Prelude.{Ok, Err, ◌⊎◌}
 use Prim.Native.Nat.{ℕ, zero, suc, ◌+◌, ◌-◌, ◌<◌, ◌≤◌}
+use mathlib.Core.Logic.{inl, inr}
 use mathlib.Core.Path.{◌≡◌, refl, sym, ap, ◌∙◌}
 use mathlib.Core.Bool.{Bool, true, false, cond, not, ◌&&◌, ◌||◌}
 use mathlib.Core.List.{List, [], ◌∷◌}
@@ -10,7 +12,7 @@ use lib.Dec.{eqb, ltb}
 use borrow.Author.Tests.{eqb-true, eqb-false, ltb-true, ltb-false, eq-eqb, ne_eqb, lt-ltb}
 use lib.ListN.{length, get_or, drop, length-drop, drop_of_length-le}
 use lib.Seq.{drop-drop, get_or-drop}
-use Rattle.expr.specs.declared.Read.{Read}
+use Rattle.expr.specs.Expr.{Read}
 use Rattle.expr.specs.declared.Value.{Value}
 use Rattle.expr.specs.declared.Fault.{Fault}
 use Rattle.expr.specs.Value.{combined}
@@ -123,17 +125,26 @@ closes_none c k e = rw e (go (eqb c 41))
 pub closes_not : (c k : ℕ) → (c ≡ 41 → ⊥) → (eqb c 41 && ltb 0 k) ≡ false
 closes_not c k f = rw (ne_eqb _ _ f)
 
+-- the tests of the code that are false
+pub not_minus : (m : Bool) (c : ℕ) → ((m ≡ true) × (c ≡ 45 → ⊥)) ⊎ (m ≡ false) → (m && eqb c 45) ≡ false
+not_minus m c (inl p) = rw (p.0, ne_eqb _ _ p.1)
+not_minus m c (inr p) = rw p
+
+pub not_closing : (c k : ℕ) → ((c ≡ 41) × (k ≤ 0)) ⊎ (c ≡ 41 → ⊥) → (eqb c 41 && ltb 0 k) ≡ false
+not_closing c k (inl p) = let e : k ≡ 0 = omega (arith, p.1) in closes_none c k e
+not_closing c k (inr p) = closes_not c k p
+
 -- ---- a reading, and the walk after it
 
 -- where a reading ends the walk goes on; where there is none it says no
 abbrev goes : ℕ → List ℕ → Read → Bool
-goes k s (Read.Got v n) = walk false false k 0 (drop n s)
-goes k s (Read.Not e) = false
+goes k s (Ok (v, n)) = walk false false k 0 (drop n s)
+goes k s (Err e) = false
 
 -- whether a byte of some kind follows what is read
 abbrev follows : (ℕ → Bool) → List ℕ → Read → Bool
-follows j s (Read.Got v n) = j (get_or s n 0)
-follows j s (Read.Not e) = false
+follows j s (Ok (v, n)) = j (get_or s n 0)
+follows j s (Err e) = false
 
 -- of texts up to a length: the walk takes what is read, and no byte of a kind follows it
 abbrev Walks : (ℕ → Bool) → (List ℕ → Read) → ℕ → Type 0
@@ -143,8 +154,8 @@ abbrev nothing : ℕ → Bool
 nothing c = false
 
 follows_nothing : (s : List ℕ) (x : Read) → follows nothing s x ≡ false
-follows_nothing s (Read.Got v n) = refl
-follows_nothing s (Read.Not e) = refl
+follows_nothing s (Ok (v, n)) = refl
+follows_nothing s (Err e) = refl
 
 -- ---- operands, over what stands inside parentheses
 
@@ -159,10 +170,10 @@ unjoined c = adds c || (multiplies c || nothing c)
 
 closed_walk : (c : ℕ) (r : List ℕ) (k : ℕ) (x : Read) → follows unjoined r x ≡ false → goes (k + 1) r x ≡ goes k (c ∷ r) (closed_of r x)
 unfolding closed_of
-closed_walk c r k (Read.Not e) h = refl
-closed_walk c r k (Read.Got v n) h = go (ltb n (length r)) (eqb (get_or r n 0) 41) refl refl
+closed_walk c r k (Err e) h = refl
+closed_walk c r k (Ok (v, n)) h = go (ltb n (length r)) (eqb (get_or r n 0) 41) refl refl
   where
-    go : (a b : Bool) → ltb n (length r) ≡ a → eqb (get_or r n 0) 41 ≡ b → walk false false (k + 1) 0 (drop n r) ≡ goes k (c ∷ r) (cond (eqb (get_or r n 0) 41) (Read.Got v (n + 2)) (Read.Not Fault.Form))
+    go : (a b : Bool) → ltb n (length r) ≡ a → eqb (get_or r n 0) 41 ≡ b → walk false false (k + 1) 0 (drop n r) ≡ goes k (c ∷ r) (cond (eqb (get_or r n 0) 41) (Ok (v, n + 2)) (Err Fault.Form))
     go false b p q =
         let e : get_or r n 0 ≡ 0 = beyond r n (ltb-false _ _ p) in
         rw e (walk_end r n (ltb-false _ _ p) false false (k + 1) ∙ ne_eqb (k + 1) 0 (λ z. omega arith))
@@ -177,14 +188,14 @@ unfolding size_of
 leaf_walk c r k f = go (leaf_of none (c ∷ r)) refl
   where
     go : (x : Read) → leaf_of none (c ∷ r) ≡ x → walk true false k 0 (c ∷ r) ≡ goes k (c ∷ r) x
-    go (Read.Not e) p = at_nothing c r false k f refl 0 (sym (ap size_of p)) refl
-    go (Read.Got v zero) p = absurd (leaf_some none (c ∷ r) v p)
-    go (Read.Got v (suc n)) p = at_leaf c r false k f refl (suc n) (sym (ap size_of p)) (λ z. omega arith) ∙ (let q : suc n - 1 ≡ n = omega arith in ap (λ (i : ℕ). walk false false k 0 (drop i r)) q)
+    go (Err e) p = at_nothing c r false k f refl 0 (sym (ap size_of p)) refl
+    go (Ok (v, zero)) p = absurd (leaf_some none (c ∷ r) v p)
+    go (Ok (v, suc n)) p = at_leaf c r false k f refl (suc n) (sym (ap size_of p)) (λ z. omega arith) ∙ (let q : suc n - 1 ≡ n = omega arith in ap (λ (i : ℕ). walk false false k 0 (drop i r)) q)
 
 signed_walk : (c : ℕ) (r : List ℕ) (k : ℕ) (x : Read) → goes k r x ≡ goes k (c ∷ r) (signed_of 1 x)
 unfolding signed_of
-signed_walk c r k (Read.Not e) = refl
-signed_walk c r k (Read.Got v n) = rw (add-one n)
+signed_walk c r k (Err e) = refl
+signed_walk c r k (Ok (v, n)) = rw (add-one n)
 
 no_minus : (c : ℕ) (r : List ℕ) (k : ℕ) → eqb c 45 ≡ false → walk true true k 0 (c ∷ r) ≡ walk true false k 0 (c ∷ r)
 unfolding walk
@@ -227,19 +238,19 @@ module _ (js j : ℕ → Bool) (none_js : js 0 ≡ false) (none_j : j 0 ≡ fals
     gives i v x e a b = rw e (a, b)
 
     end_goes : (i : ℕ) (v : Value) → length l ≤ i → Goes i v
-    end_goes i v h = gives i v (Read.Got v i) (chain_none js item v i l i h) refl (rw (beyond l i h, none_js) none_j)
+    end_goes i v h = gives i v (Ok (v, i)) (chain_none js item v i l i h) refl (rw (beyond l i h, none_js) none_j)
 
     stop_goes : (i : ℕ) (v : Value) → i < length l → js (get_or l i 0) ≡ false → j (get_or l i 0) ≡ false → Goes i v
-    stop_goes i v h e f = gives i v (Read.Got v i) (chain_stop js item l i h v i e) refl (rw e f)
+    stop_goes i v h e f = gives i v (Ok (v, i)) (chain_stop js item l i h v i e) refl (rw e f)
 
     turn_goes : (i : ℕ) (v : Value) → i < length l → js (get_or l i 0) ≡ true → (x : Read) → item (drop (i + 1) l) ≡ x
         → ((n : ℕ) (b : Value) → j (get_or l (i + 1 + n) 0) ≡ false → Goes (i + 1 + n) b) → Goes i v
     unfolding joined_of
-    turn_goes i v h e (Read.Not f) p next = gives i v (Read.Not f) (chain_not js item l i h v i f e (ap (joined_of _ v) p)) (on ∙ ap (goes k (drop (i + 1) l)) p) refl
+    turn_goes i v h e (Err f) p next = gives i v (Err f) (chain_not js item l i h v i f e (ap (joined_of _ v) p)) (on ∙ ap (goes k (drop (i + 1) l)) p) refl
       where
         on : walk false false k 0 (drop i l) ≡ goes k (drop (i + 1) l) (item (drop (i + 1) l))
         on = sym (step_join l i h false k (only _ e)) ∙ (reads (drop (i + 1) l) k (rw length-drop (omega arith))).0
-    turn_goes i v h e (Read.Got w n) p next =
+    turn_goes i v h e (Ok (w, n)) p next =
         let r = reads (drop (i + 1) l) k (rw length-drop (omega arith)) in
         let x = combined (get_or l i 0) v w in
         let g = next n x (sym (ap j (get_or-drop (i + 1) l n 0)) ∙ sym (ap (follows j (drop (i + 1) l)) p) ∙ r.1) in
@@ -259,8 +270,8 @@ module _ (js j : ℕ → Bool) (none_js : js 0 ≡ false) (none_j : j 0 ≡ fals
   items_walk l k short = go (item l) refl (reads l k short)
     where
       go : (x : Read) → item l ≡ x → (walk true true k 0 l ≡ goes k l (item l)) × (follows j l (item l) ≡ false) → (walk true true k 0 l ≡ goes k l (items_of js item l)) × (follows either l (items_of js item l) ≡ false)
-      go (Read.Not e) p (a, b) = rw (items_not js item l e p) (a ∙ ap (goes k l) p, refl)
-      go (Read.Got v n) p (a, b) =
+      go (Err e) p (a, b) = rw (items_not js item l e p) (a ∙ ap (goes k l) p, refl)
+      go (Ok (v, n)) p (a, b) =
           let g = chain_goes l k short (length l) n v (omega arith) (sym (ap (follows j l) p) ∙ b) in
           rw (items_got js item l v n p) (a ∙ ap (goes k l) p ∙ g.0, g.1)
 
@@ -284,8 +295,8 @@ inside_walks (suc more) s k h = sum_walks (inside_of none more) more (inside_wal
 -- where no parenthesis is open, the walk says whether all is read
 whole : (s : List ℕ) (x : Read) → size_of x ≤ length s → follows unjoined s x ≡ false → goes 0 s x ≡ is_whole s x
 unfolding is_whole size_of
-whole s (Read.Not e) h f = refl
-whole s (Read.Got v n) h f = go (ltb n (length s)) refl
+whole s (Err e) h f = refl
+whole s (Ok (v, n)) h f = go (ltb n (length s)) refl
   where
     go : (a : Bool) → ltb n (length s) ≡ a → walk false false 0 0 (drop n s) ≡ eqb n (length s)
     go false p = let e : n ≡ length s = let q = ltb-false n (length s) p in omega arith in walk_end s n (ltb-false _ _ p) false false 0 ∙ sym (eq-eqb _ _ e)

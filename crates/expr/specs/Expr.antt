@@ -3,12 +3,12 @@
 -- A text is read from its front; the answer is a value and how many bytes it took, or the first fault of its form.
 -- Recursion: `inside_of` on the parentheses that may still open, `chain_of` on the text. No fuel.
 -- Assumes nothing.
-use Rattle.std.specs.Prelude.{ℕ, zero, suc, ◌+◌, ◌-◌, ◌*◌, Bool, false, cond, ◌&&◌, ◌||◌, List, [], ◌∷◌, ltb, leb, eqb, length, get_or, take, drop}
+use Rattle.std.specs.Prelude.{ℕ, zero, suc, ◌+◌, ◌-◌, ◌*◌, Bool, false, cond, ◌&&◌, ◌||◌, List, [], ◌∷◌, ◌==◌, ltb, leb, eqb, length, get_or, take, drop, map, find, None, Option, Some, Result, Ok, Err}
+use Rattle.std.specs.Option.{option_map}
 use Rattle.text.specs.Digits.{digits_read, leading_zero}
-use Rattle.text.specs.declared.Read.{Read as Digits}
+use Rattle.expr.specs.declared.Entry.{Entry}
 use Rattle.expr.specs.declared.Value.{Value}
 use Rattle.expr.specs.declared.Fault.{Fault}
-use Rattle.expr.specs.declared.Read.{Read}
 use Rattle.expr.specs.Value.{combined, negated, signed_word, written}
 
 -- ---- labels: "a letter, then up to 11 letters or digits, lower-case"
@@ -49,6 +49,17 @@ labels k p = record { keys = k; places = p }
 abbrev pub none : Labels
 none = labels [] []
 
+-- the same of labels as the code has them, each with its address beside it
+abbrev pub names : List Entry → List ℕ
+names l = map (λ (x : Entry). x.name) l
+
+abbrev pub labels_in : List Entry → Labels
+labels_in l = labels (names l) (map (λ (x : Entry). x.place) l)
+
+-- where the first label stands whose name has the number k, if one has it
+abbrev pub found : List Entry → ℕ → Option ℕ
+found l k = option_map (λ (x : Entry). x.place) (find (λ (x : Entry). x.name == k) l)
+
 -- the place of the first number that is k; the length where there is none
 unfoldable pub index_of : List ℕ → ℕ → ℕ
 index_of [] k = 0
@@ -60,21 +71,25 @@ meaning t k = cond (ltb (index_of t.keys k) (length t.keys)) (Value.Is (signed_w
 
 -- ---- what is read
 
+-- a value and how many bytes were read, or what is wrong with the form first
+abbrev pub Read : Type 0
+Read = Result (Value × ℕ) Fault
+
 -- how many bytes were read
 unfoldable pub size_of : Read → ℕ
-size_of (Read.Got v n) = n
-size_of (Read.Not e) = 0
+size_of (Ok (v, n)) = n
+size_of (Err e) = 0
 
 -- go on where a value was read
 unfoldable pub onward : Read → (Value → ℕ → Read) → Read
-onward (Read.Got v n) f = f v n
-onward (Read.Not e) f = Read.Not e
+onward (Ok (v, n)) f = f v n
+onward (Err e) f = Err e
 
 -- ---- number or label: the letters and digits that lead, as one word
 
-unfoldable pub counted : ℕ → Digits → Read
-counted n (Digits.Number v) = Read.Got (written v) n
-counted n Digits.Nothing = Read.Not Fault.Form
+unfoldable pub counted : ℕ → Option ℕ → Read
+counted n (Some v) = Ok (written v, n)
+counted n None = Err Fault.Form
 
 abbrev pub is_hex : List ℕ → Bool
 is_hex w = ltb 2 (length w) && eqb (get_or w 0 0) 48 && eqb (get_or w 1 0) 120
@@ -83,11 +98,11 @@ is_hex w = ltb 2 (length w) && eqb (get_or w 0 0) 48 && eqb (get_or w 1 0) 120
 abbrev pub number_read : List ℕ → Read
 number_read w =
     cond (is_hex w) (counted (length w) (digits_read 16 0 (drop 2 w)))
-    (cond (eqb (length w) 0 || leading_zero w) (Read.Not Fault.Form) (counted (length w) (digits_read 10 0 w)))
+    (cond (eqb (length w) 0 || leading_zero w) (Err Fault.Form) (counted (length w) (digits_read 10 0 w)))
 
 unfoldable pub word_read : Labels → List ℕ → Read
 word_read t w =
-    cond (is_letter (get_or w 0 0)) (cond (leb (length w) 12) (Read.Got (meaning t (key_of w)) (length w)) (Read.Not Fault.Form)) (number_read w)
+    cond (is_letter (get_or w 0 0)) (cond (leb (length w) 12) (Ok (meaning t (key_of w), length w)) (Err Fault.Form)) (number_read w)
 
 unfoldable pub leaf_of : Labels → List ℕ → Read
 leaf_of t s = word_read t (take (run_of s) s)
@@ -95,14 +110,14 @@ leaf_of t s = word_read t (take (run_of s) s)
 -- ---- item {c item}, each c one that joins: v is the value of the n bytes read so far, of which k still stand at the front of the text
 
 unfoldable pub joined_of : ℕ → Value → Read → Read
-joined_of c v (Read.Got w n) = Read.Got (combined c v w) n
-joined_of c v (Read.Not e) = Read.Not e
+joined_of c v (Ok (w, n)) = Ok (combined c v w, n)
+joined_of c v (Err e) = Err e
 
 unfoldable pub chain_of : (ℕ → Bool) → (List ℕ → Read) → Value → ℕ → ℕ → List ℕ → Read
-chain_of joins item v n k [] = Read.Got v n
+chain_of joins item v n k [] = Ok (v, n)
 chain_of joins item v n (suc k) (c ∷ s) = chain_of joins item v n k s
 chain_of joins item v n zero (c ∷ s) =
-    cond (joins c) (onward (joined_of c v (item s)) (λ x m. chain_of joins item x (n + 1 + m) m s)) (Read.Got v n)
+    cond (joins c) (onward (joined_of c v (item s)) (λ x m. chain_of joins item x (n + 1 + m) m s)) (Ok (v, n))
 
 unfoldable pub items_of : (ℕ → Bool) → (List ℕ → Read) → List ℕ → Read
 items_of joins item s = onward (item s) (λ v n. chain_of joins item v n n s)
@@ -120,13 +135,13 @@ unfoldable pub sign_of : List ℕ → ℕ
 sign_of s = cond (eqb (get_or s 0 0) 45) 1 0
 
 unfoldable pub signed_of : ℕ → Read → Read
-signed_of k (Read.Got v n) = cond (eqb k 0) (Read.Got v n) (Read.Got (negated v) (n + 1))
-signed_of k (Read.Not e) = Read.Not e
+signed_of k (Ok (v, n)) = cond (eqb k 0) (Ok (v, n)) (Ok (negated v, n + 1))
+signed_of k (Err e) = Err e
 
 -- what was read after `(`, with the `)` that must follow
 unfoldable pub closed_of : List ℕ → Read → Read
-closed_of s (Read.Got v n) = cond (eqb (get_or s n 0) 41) (Read.Got v (n + 2)) (Read.Not Fault.Form)
-closed_of s (Read.Not e) = Read.Not e
+closed_of s (Ok (v, n)) = cond (eqb (get_or s n 0) 41) (Ok (v, n + 2)) (Err Fault.Form)
+closed_of s (Err e) = Err e
 
 -- number, label, or "(" sum ")"
 unfoldable pub plain_with : (List ℕ → Read) → Labels → List ℕ → Read
@@ -143,7 +158,7 @@ sum_with inside t s = items_of adds (product_with inside t) s
 
 -- inside parentheses, of which `more` may open, this one with them
 unfoldable pub inside_of : Labels → ℕ → List ℕ → Read
-inside_of t zero s = Read.Not Fault.Deep
+inside_of t zero s = Err Fault.Deep
 inside_of t (suc more) s = sum_with (inside_of t more) t s
 
 unfoldable pub operand_of : Labels → ℕ → List ℕ → Read
@@ -163,8 +178,8 @@ value_of t s = sum_of t 8 s
 
 -- all of it is read
 unfoldable pub is_whole : List ℕ → Read → Bool
-is_whole s (Read.Got v n) = eqb n (length s)
-is_whole s (Read.Not e) = false
+is_whole s (Ok (v, n)) = eqb n (length s)
+is_whole s (Err e) = false
 
 -- a sum, whatever its labels mean and however many parentheses are open: no more can be than it has bytes
 unfoldable pub is_sum : List ℕ → Bool

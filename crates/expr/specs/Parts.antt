@@ -1,8 +1,16 @@
 -- Words that only helpers' contracts cite: the form of a sum, as a walk over its bytes (it is the grammar's: proofs/Walk.antt).
 -- Assumes nothing.
-use Rattle.std.specs.Prelude.{ℕ, zero, suc, ◌+◌, ◌-◌, Bool, true, false, cond, not, ◌&&◌, ◌||◌, List, [], ◌∷◌, ltb, eqb, drop}
-use Rattle.expr.specs.declared.form.Turn.{Turn}
-use Rattle.expr.specs.Expr.{size_of, leaf_of, none, adds, multiplies}
+use Rattle.std.specs.Prelude.{ℕ, zero, suc, ◌+◌, ◌-◌, Bool, true, false, cond, not, ◌&&◌, ◌||◌, List, [], ◌∷◌, Option, Some, None, ltb, leb, eqb, take, drop}
+use Rattle.expr.specs.declared.turn.Turn.{Turn}
+use Rattle.expr.specs.Expr.{is_letter, is_digit, run_of, key_of, size_of, leaf_of, none, adds, multiplies}
+
+-- a letter or a digit
+abbrev pub named : ℕ → Bool
+named c = is_letter c || is_digit c
+
+-- the number of the letters and digits that lead, and how many they are, if they are few enough
+unfoldable pub led_by : List ℕ → Option (ℕ × ℕ)
+led_by s = cond (leb (run_of s) 12) (Some (key_of (take (run_of s) s), run_of s)) None
 
 abbrev pub joins : ℕ → Bool
 joins c = multiplies c || adds c
@@ -20,15 +28,6 @@ walk false minus k zero (c ∷ s) =
     (cond (eqb c 41 && ltb 0 k) (walk false false (k - 1) 0 s) false)
 
 -- what the walk says from a turn's end on
-unfoldable pub told_by : List ℕ → Turn → Bool
-told_by s (Turn.On wanted minus k n) = walk wanted minus k 0 (drop n s)
-told_by s Turn.No = false
-
--- where a turn from a place ends, and how many parentheses are open then
-unfoldable pub place_of : ℕ → Turn → ℕ
-place_of at (Turn.On wanted minus k n) = n
-place_of at Turn.No = at + 1
-
-unfoldable pub open_of : Turn → ℕ
-open_of (Turn.On wanted minus k n) = k
-open_of Turn.No = 0
+unfoldable pub told_by : List ℕ → Option Turn → Bool
+told_by s (Some t) = walk t.wanted t.minus t.depth 0 (drop t.at s)
+told_by s None = false

@@ -1,41 +1,30 @@
 // Sum, product and operand: a cycle of calls that ends since a parenthesis takes one off the allowance.
 ghost use Rattle.std.specs.Prelude.{◌≡◌, ◌+◌, ◌≤◌, ◌<◌, ◌^◌, length};
-ghost use Rattle.expr.specs.Expr.{labels, size_of, joined_of, adds, sign_of, signed_of, closed_of, operand_of, product_of, sum_of, value_of};
+ghost use Rattle.expr.specs.Expr.{labels_in, size_of, joined_of, adds, sign_of, signed_of, closed_of, operand_of, product_of, sum_of, value_of};
 
 use crate::labels::byte;
 use crate::leaves::leaf;
 use crate::values::combine;
-use crate::{Fault, Read, Value};
+use crate::{Entry, Fault, Read, Value};
 
 fn joined(c: u8, v: Value, next: Read) -> Read
     ensures { (result ≡ joined_of c v next) × (size_of result ≤ size_of next) }
 {
-    match next {
-        Read::Got(w, n) => Read::Got(combine(c, v, w), n),
-        Read::Not(e) => Read::Not(e),
-    }
+    let (w, n) = next?;
+    Ok((combine(c, v, w), n))
 }
 
 pub fn is_adding(c: u8) -> bool
     ensures { result ≡ adds c }
 {
-    if c == 43 {
-        return true;
-    }
-    c == 45
+    c == 43 || c == 45
 }
 
 // How many bytes of a minus lead.
 fn sign(s: &[u8]) -> usize
     ensures { (result ≡ sign_of s.now) × (result ≤ 1) × (result ≤ length s.now) }
 {
-    if s.len() == 0 {
-        return 0;
-    }
-    if s[0] == 45 {
-        return 1;
-    }
-    0
+    if byte(s, 0) == 45 { 1 } else { 0 }
 }
 
 // What stands after k bytes of a minus, with them.
@@ -43,124 +32,75 @@ fn signed(k: usize, next: Read) -> Read
     requires { (k ≤ 1) × (size_of next < 2 ^ 63) }
     ensures { (result ≡ signed_of k next) × (size_of result ≤ k + size_of next) }
 {
-    match next {
-        Read::Got(w, n) => {
-            if k == 0 {
-                return Read::Got(w, n);
-            }
-            let x = combine(45, Value::Is(0), w);
-            Read::Got(x, n + 1)
-        }
-        Read::Not(e) => Read::Not(e),
+    let (w, n) = next?;
+    if k == 0 {
+        return Ok((w, n));
     }
+    Ok((combine(45, Value::Is(0), w), n + 1))
 }
 
 // What was read after a parenthesis, with the one that closes it.
 fn closed(s: &[u8], inner: Read) -> Read
     ensures { (result ≡ closed_of s.now inner) × (size_of result ≤ length s.now + 1) }
 {
-    match inner {
-        Read::Got(v, n) => {
-            if n < s.len() {
-                if s[n] == 41 {
-                    return Read::Got(v, n + 2);
-                }
-                return Read::Not(Fault::Form);
-            }
-            Read::Not(Fault::Form)
-        }
-        Read::Not(e) => Read::Not(e),
+    let (v, n) = inner?;
+    if byte(s, n) == 41 {
+        return Ok((v, n + 2));
     }
+    Err(Fault::Form)
 }
 
 #[cycle(operand_product_sum)]
-fn operand(s: &[u8], keys: &[u64], places: &[u32], more: u32) -> Read
-    ensures { (result ≡ operand_of (labels keys.now places.now) more s.now) × (size_of result ≤ length s.now) }
+fn operand(s: &[u8], labels: &[Entry], more: u32) -> Read
+    ensures { (result ≡ operand_of (labels_in labels.now) more s.now) × (size_of result ≤ length s.now) }
 {
     let k = sign(s);
     if byte(s, k) == 40 {
         if more == 0 {
-            return Read::Not(Fault::Deep);
+            return Err(Fault::Deep);
         }
         let from = k + 1;
-        let inner = sum(&s[from..], keys, places, more - 1);
+        let inner = sum(&s[from..], labels, more - 1);
         let whole = closed(&s[from..], inner);
         return signed(k, whole);
     }
-    let plain = leaf(&s[k..], keys, places);
+    let plain = leaf(&s[k..], labels);
     signed(k, plain)
 }
 
 #[cycle(operand_product_sum)]
-fn product(s: &[u8], keys: &[u64], places: &[u32], more: u32) -> Read
-    ensures { (result ≡ product_of (labels keys.now places.now) more s.now) × (size_of result ≤ length s.now) }
+fn product(s: &[u8], labels: &[Entry], more: u32) -> Read
+    ensures { (result ≡ product_of (labels_in labels.now) more s.now) × (size_of result ≤ length s.now) }
 {
-    let first = operand(s, keys, places, more);
-    match first {
-        Read::Got(w, n) => {
-            let mut v = w;
-            let mut at = n;
-            while at < s.len() {
-                let c = s[at];
-                if c != 42 {
-                    return Read::Got(v, at);
-                }
-                let from = at + 1;
-                let next = operand(&s[from..], keys, places, more);
-                let whole = joined(c, v, next);
-                match whole {
-                    Read::Got(x, m) => {
-                        v = x;
-                        at = from + m;
-                    }
-                    Read::Not(e) => {
-                        return Read::Not(e);
-                    }
-                }
-            }
-            Read::Got(v, at)
-        }
-        Read::Not(e) => Read::Not(e),
+    let (mut v, mut at) = operand(s, labels, more)?;
+    while byte(s, at) == 42 {
+        let from = at + 1;
+        let next = operand(&s[from..], labels, more);
+        let (x, m) = joined(42, v, next)?;
+        v = x;
+        at = from + m;
     }
+    Ok((v, at))
 }
 
 #[cycle(operand_product_sum)]
-fn sum(s: &[u8], keys: &[u64], places: &[u32], more: u32) -> Read
-    ensures { (result ≡ sum_of (labels keys.now places.now) more s.now) × (size_of result ≤ length s.now) }
+fn sum(s: &[u8], labels: &[Entry], more: u32) -> Read
+    ensures { (result ≡ sum_of (labels_in labels.now) more s.now) × (size_of result ≤ length s.now) }
 {
-    let first = product(s, keys, places, more);
-    match first {
-        Read::Got(w, n) => {
-            let mut v = w;
-            let mut at = n;
-            while at < s.len() {
-                let c = s[at];
-                if is_adding(c) {
-                    let from = at + 1;
-                    let next = product(&s[from..], keys, places, more);
-                    let whole = joined(c, v, next);
-                    match whole {
-                        Read::Got(x, m) => {
-                            v = x;
-                            at = from + m;
-                        }
-                        Read::Not(e) => {
-                            return Read::Not(e);
-                        }
-                    }
-                } else {
-                    return Read::Got(v, at);
-                }
-            }
-            Read::Got(v, at)
-        }
-        Read::Not(e) => Read::Not(e),
+    let (mut v, mut at) = product(s, labels, more)?;
+    while is_adding(byte(s, at)) {
+        let from = at + 1;
+        let next = product(&s[from..], labels, more);
+        let (x, m) = joined(s[at], v, next)?;
+        v = x;
+        at = from + m;
     }
+    Ok((v, at))
 }
 
 // At most eight parentheses may be open.
-pub fn evaluate(s: &[u8], keys: &[u64], places: &[u32]) -> Read
-    ensures { result ≡ value_of (labels keys.now places.now) s.now }
+pub fn evaluate(s: &[u8], labels: &[Entry]) -> Read
+    ensures { result ≡ value_of (labels_in labels.now) s.now }
 {
-    sum(s, keys, places, 8)
+    sum(s, labels, 8)
 }

@@ -1,112 +1,113 @@
 // The form of a sum, however many parentheses are open: a loop and no cycle of calls, so that no text is too deep for the stack.
-ghost use Rattle.std.specs.Prelude.{◌≡◌, true, false, ◌&&◌, ◌+◌, ◌≤◌, ◌<◌, eqb, length, drop};
+ghost use Rattle.std.specs.Prelude.{◌≡◌, true, false, ◌&&◌, ◌+◌, ◌≤◌, ◌<◌, IfSome, eqb, length, drop};
 ghost use Rattle.expr.specs.Expr.{size_of, leaf_of, none, is_sum};
-ghost use Rattle.expr.specs.Parts.{walk, told_by, place_of, open_of};
+ghost use Rattle.expr.specs.Parts.{walk, told_by};
 
-use crate::Read;
 use crate::cycle::is_adding;
 use crate::leaves::leaf;
-
-// Whether an operand is wanted next, whether a minus may stand before it, how many parentheses are open, and the place; or no sum.
-#[derive(Clone, Copy)]
-enum Turn {
-    On(bool, bool, usize, usize),
-    No,
-}
+use crate::turn::Turn;
 
 // How many bytes of a number or a label lead. Whatever labels mean, their form is the same.
 fn leaf_size(s: &[u8]) -> usize
     ensures { (result ≡ size_of (leaf_of none s.now)) × (result ≤ length s.now) }
 {
-    let r = leaf(s, &[0u64; 0], &[0u32; 0]);
-    match r {
-        Read::Got(_, n) => n,
-        Read::Not(_) => 0,
+    match leaf(s, &[]) {
+        Ok((_, n)) => n,
+        Err(_) => 0,
     }
-}
-
-fn is_minus(allowed: bool, c: u8) -> bool
-    ensures { result ≡ (allowed && eqb c 45) }
-{
-    if allowed {
-        return c == 45;
-    }
-    false
 }
 
 // At a byte where an operand is wanted.
-fn wanting(s: &[u8], minus: bool, depth: usize, at: usize) -> Turn
-    requires { (at < length s.now) × (depth ≤ at) }
-    ensures { (told_by s.now result ≡ walk true minus depth 0 (drop at s.now)) × (at < place_of at result) × (place_of at result ≤ length s.now) × (open_of result ≤ place_of at result) }
+fn wanting(s: &[u8], turn: Turn) -> Option<Turn>
+    requires { turn.at < length s.now }
+    ensures told { told_by s.now result ≡ walk true turn.minus turn.depth 0 (drop turn.at s.now) }
+    ensures further { IfSome result (λ next. (turn.at < next.at) × (next.at ≤ length s.now)) }
 {
+    let depth = turn.depth;
+    let at = turn.at;
     let c = s[at];
     if c == 40 {
-        return Turn::On(true, true, depth + 1, at + 1);
+        return Some(Turn {
+            wanted: true,
+            minus: true,
+            depth: depth + 1,
+            at: at + 1,
+        });
     }
-    if is_minus(minus, c) {
-        return Turn::On(true, false, depth, at + 1);
+    if turn.minus && c == 45 {
+        return Some(Turn {
+            wanted: true,
+            minus: false,
+            depth,
+            at: at + 1,
+        });
     }
     let n = leaf_size(&s[at..]);
     if n == 0 {
-        return Turn::No;
+        return None;
     }
-    Turn::On(false, false, depth, at + n)
+    Some(Turn {
+        wanted: false,
+        minus: false,
+        depth,
+        at: at + n,
+    })
 }
 
 // At a byte after an operand.
-fn after(s: &[u8], depth: usize, at: usize) -> Turn
-    requires { (at < length s.now) × (depth ≤ at) }
-    ensures { (told_by s.now result ≡ walk false false depth 0 (drop at s.now)) × (at < place_of at result) × (place_of at result ≤ length s.now) × (open_of result ≤ place_of at result) }
+fn after(s: &[u8], turn: Turn) -> Option<Turn>
+    requires { turn.at < length s.now }
+    ensures told { told_by s.now result ≡ walk false false turn.depth 0 (drop turn.at s.now) }
+    ensures further { IfSome result (λ next. (turn.at < next.at) × (next.at ≤ length s.now)) }
 {
+    let depth = turn.depth;
+    let at = turn.at;
     let c = s[at];
-    if c == 42 {
-        return Turn::On(true, true, depth, at + 1);
+    if c == 42 || is_adding(c) {
+        return Some(Turn {
+            wanted: true,
+            minus: true,
+            depth,
+            at: at + 1,
+        });
     }
-    if is_adding(c) {
-        return Turn::On(true, true, depth, at + 1);
+    if c == 41 && 0 < depth {
+        return Some(Turn {
+            wanted: false,
+            minus: false,
+            depth: depth - 1,
+            at: at + 1,
+        });
     }
-    if c == 41 {
-        if depth == 0 {
-            return Turn::No;
-        }
-        return Turn::On(false, false, depth - 1, at + 1);
-    }
-    Turn::No
+    None
 }
 
-fn step(s: &[u8], wanted: bool, minus: bool, depth: usize, at: usize) -> Turn
-    requires { (at < length s.now) × (depth ≤ at) }
-    ensures { (told_by s.now result ≡ walk wanted minus depth 0 (drop at s.now)) × (at < place_of at result) × (place_of at result ≤ length s.now) × (open_of result ≤ place_of at result) }
+fn step(s: &[u8], turn: Turn) -> Option<Turn>
+    requires { turn.at < length s.now }
+    ensures told { told_by s.now result ≡ walk turn.wanted turn.minus turn.depth 0 (drop turn.at s.now) }
+    ensures further { IfSome result (λ next. (turn.at < next.at) × (next.at ≤ length s.now)) }
 {
-    if wanted {
-        return wanting(s, minus, depth, at);
+    if turn.wanted {
+        wanting(s, turn)
+    } else {
+        after(s, turn)
     }
-    after(s, depth, at)
 }
 
 pub fn is_sum(s: &[u8]) -> bool
     ensures { result ≡ is_sum s.now }
 {
-    let mut wanted = true;
-    let mut minus = true;
-    let mut depth: usize = 0;
-    let mut at: usize = 0;
-    while at < s.len() {
-        let next = step(s, wanted, minus, depth, at);
-        match next {
-            Turn::On(w, m, k, n) => {
-                wanted = w;
-                minus = m;
-                depth = k;
-                at = n;
-            }
-            Turn::No => {
-                return false;
-            }
-        }
+    let mut turn = Turn {
+        wanted: true,
+        minus: true,
+        depth: 0,
+        at: 0,
+    };
+    while turn.at < s.len() {
+        let Some(next) = step(s, turn) else {
+            return false;
+        };
+        turn = next;
     }
-    if wanted {
-        return false;
-    }
-    depth == 0
+    !turn.wanted && turn.depth == 0
 }

@@ -5,12 +5,21 @@ mod cycle;
 mod form;
 mod labels;
 mod leaves;
+mod turn;
 mod values;
 
 pub use cycle::evaluate;
 pub use form::is_sum;
 pub use labels::{find, label};
 
+// A label that is set, in a table of them: its name's number, and its address.
+#[derive(Clone, Copy)]
+pub struct Entry {
+    pub name: u64,
+    pub place: u32,
+}
+
+// Three cases and no Result of an Option: that a label is unknown is told before a value that is too large.
 #[derive(Clone, Copy)]
 pub enum Value {
     Is(i32),
@@ -25,8 +34,4 @@ pub enum Fault {
 }
 
 // A value and how many bytes were read, or what is wrong with the form first.
-#[derive(Clone, Copy)]
-pub enum Read {
-    Got(Value, usize),
-    Not(Fault),
-}
+pub type Read = Result<(Value, usize), Fault>;

@@ -2,7 +2,14 @@
 -- Assumes nothing.
 use Prim.Native.Nat.{ℕ, suc, ◌+◌, ◌-◌, ◌<◌, ◌≤◌}
 use mathlib.Core.Path.{◌≡◌, refl, sym, ap, subst, ◌∙◌}
-use mathlib.Core.Bool.{Bool, true, false, cond}
+use mathlib.Core.Bool.{Bool, true, false, cond, not, ◌||◌, ◌&&◌}
+use lib.Pointwise.{pointwise}
+use Rattle.text.specs.Fields.{same_of}
+use Rattle.std.proofs.Common.{Option, Some, None, one-add, ltb}
+use Rattle.std.specs.List.{position_or_len}
+use Rattle.std.specs.Option.{unwrap_or}
+use Rattle.std.proofs.lemmas.List.Recursion.{is_position_or_len}
+use Rattle.std.proofs.lemmas.List.Sums.{prefix_len-le-length}
 use mathlib.Core.List.{List, [], ◌∷◌}
 use native.Mathlib.Numerals.{add-one}
 use native.Mathlib.Omega.{arith}
@@ -14,75 +21,76 @@ use mir.ValLaws.{to_z-of_z}
 use mir.Syntax.{w32}
 use lib.ListN.{length, get_or, take, drop, length-drop, drop_of_length-le}
 use lib.Seq.{drop-cons, drop-drop, length-take-le}
-use borrow.Author.Tests.{eq-eqb, ne_eqb, eqb-true, ltb-true, le-ltb}
+use borrow.Author.Tests.{eqb-true, ltb-true, ltb-false, le-ltb}
 use Rattle.word.specs.Bits.{num}
 use Rattle.expr.proofs.Laws.{beyond}
-use Rattle.forms.specs.Form.{body_of, tabs_in, onto_first, lines_of}
+use Rattle.forms.specs.Form.{tabs_in, onto_first, lines_of}
 use Rattle.forms.specs.Says.{bits_of}
 use Rattle.forms.specs.Parts.{line_size, first_line, stop_of, end_of, stop_at, end_at, past_tab, with_entry, entered}
 
--- ---- a line without bytes
+-- ---- what a slice and an iterator answer
 
-pub no_body : (l : List ℕ) → length l ≡ 0 → l ≡ body_of l
-no_body [] e = refl
-no_body (c ∷ l) e = absurd (omega arith)
+pub same_bytes : (a b : List ℕ) → same_of a b ≡ pointwise eqb a b
+unfolding same_of
+same_bytes [] [] = refl
+same_bytes [] (y ∷ b) = refl
+same_bytes (x ∷ a) [] = refl
+same_bytes (x ∷ a) (y ∷ b) = ap (λ (t : Bool). eqb x y && t) (same_bytes a b)
+
+-- the first place that passes, or else the length
+first_or_all : (p : ℕ → Bool) (l : List ℕ) (r : Option ℕ) → r ≡ cond (ltb (position_or_len p l) (length l)) (Some (position_or_len p l)) None
+    → unwrap_or r (length l) ≡ position_or_len p l
+first_or_all p l r e = go (ltb (position_or_len p l) (length l)) refl e
+  where
+    go : (t : Bool) → ltb (position_or_len p l) (length l) ≡ t → r ≡ cond t (Some (position_or_len p l)) None → unwrap_or r (length l) ≡ position_or_len p l
+    go true h e = rw e
+    go false h e =
+        let a = ltb-false _ _ h in
+        let b = prefix_len-le-length (λ x. not (p x)) l in
+        rw e (omega arith)
+
+abbrev pub is_stop : ℕ → Bool
+is_stop c = eqb c 9 || eqb c 10
+
+abbrev pub is_end : ℕ → Bool
+is_end c = eqb c 10
+
+-- l: what stands from i on; n: how far the first byte is in it that passes
+module _ (t l : List ℕ) (i n : ℕ) (r : Option ℕ) (el : l ≡ drop i t) (en : n ≡ unwrap_or r (length l)) where
+  pub stop_found : r ≡ cond (ltb (position_or_len is_stop l) (length l)) (Some (position_or_len is_stop l)) None → i + n ≡ stop_at t i
+  unfolding stop_at stop_of
+  stop_found er =
+      ap (λ (k : ℕ). i + k)
+      (en ∙ first_or_all is_stop l r er ∙ sym (is_position_or_len stop_of is_stop refl (λ x xs. ap (cond (is_stop x) 0) (sym (one-add (stop_of xs)))) l) ∙ ap stop_of el)
+
+  pub end_found : r ≡ cond (ltb (position_or_len is_end l) (length l)) (Some (position_or_len is_end l)) None → i + n ≡ end_at t i
+  unfolding end_at end_of
+  end_found er =
+      ap (λ (k : ℕ). i + k)
+      (en ∙ first_or_all is_end l r er ∙ sym (is_position_or_len end_of is_end refl (λ x xs. ap (cond (is_end x) 0) (sym (one-add (end_of xs)))) l) ∙ ap end_of el)
 
 -- ---- lists read from one place on
 
-module _ (l : List ℕ) (i : ℕ) (h : i < length l) where
-  next : drop i l ≡ get_or l i 0 ∷ drop (i + 1) l
-  next = rw (add-one, drop-cons l i 0)
+pub tabs_on : (l : List ℕ) (i n : ℕ) → i < length l → n ≡ num (eqb (get_or l i 0) 9) → tabs_in (drop i l) ≡ n + tabs_in (drop (i + 1) l)
+unfolding tabs_in
+tabs_on l i n h e = rw (drop-cons l i 0, add-one, ← e)
 
-  pub tabs_on : (n : ℕ) → n ≡ num (eqb (get_or l i 0) 9) → tabs_in (drop i l) ≡ n + tabs_in (drop (i + 1) l)
-  unfolding tabs_in
-  tabs_on n e = rw (next, ← e)
+pub tabs_none : (l : List ℕ) (i : ℕ) → length l ≤ i → tabs_in (drop i l) ≡ 0
+unfolding tabs_in
+tabs_none l i h = rw (drop_of_length-le l h)
 
-  pub stop_tab : get_or l i 0 ≡ 9 → i ≡ stop_at l i
-  unfolding stop_at stop_of
-  stop_tab e = rw (next, eq-eqb _ _ e) (omega arith)
+pub entered_on : (l : List ℕ) (i : ℕ) (t : List ℕ) → i < length l → entered i (drop i l) t ≡ entered (i + 1) (drop (i + 1) l) (with_entry t (get_or l i 0) i)
+unfolding entered
+entered_on l i t h = rw (drop-cons l i 0, add-one)
 
-  pub end_there : get_or l i 0 ≡ 10 → i ≡ end_at l i
-  unfolding end_at end_of
-  end_there e = rw (next, eq-eqb _ _ e) (omega arith)
+pub entered_end : (l : List ℕ) (i : ℕ) (t : List ℕ) → length l ≤ i → entered i (drop i l) t ≡ t
+unfolding entered
+entered_end l i t h = rw (drop_of_length-le l h)
 
-  pub end_on : (get_or l i 0 ≡ 10 → ⊥) → end_at l (i + 1) ≡ end_at l i
-  unfolding end_at end_of
-  end_on k = rw (next, ne_eqb _ _ k) (omega arith)
-
-  module _ (n : get_or l i 0 ≡ 9 → ⊥) where
-    pub stop_newline : get_or l i 0 ≡ 10 → i ≡ stop_at l i
-    unfolding stop_at stop_of
-    stop_newline e = rw (next, ne_eqb _ _ n, eq-eqb _ _ e) (omega arith)
-
-    pub stop_on : (get_or l i 0 ≡ 10 → ⊥) → stop_at l (i + 1) ≡ stop_at l i
-    unfolding stop_at stop_of
-    stop_on k = rw (next, ne_eqb _ _ n, ne_eqb _ _ k) (omega arith)
-
-  pub entered_on : (t : List ℕ) → entered i (drop i l) t ≡ entered (i + 1) (drop (i + 1) l) (with_entry t (get_or l i 0) i)
-  unfolding entered
-  entered_on t = rw (next, add-one)
-
-module _ (l : List ℕ) (i : ℕ) (h : length l ≤ i) where
-  pub tabs_none : tabs_in (drop i l) ≡ 0
-  unfolding tabs_in
-  tabs_none = rw (drop_of_length-le l h)
-
-  pub stop_none : i ≡ stop_at l i
-  unfolding stop_at stop_of
-  stop_none = rw (drop_of_length-le l h) (omega arith)
-
-  pub end_none : i ≡ end_at l i
-  unfolding end_at end_of
-  end_none = rw (drop_of_length-le l h) (omega arith)
-
-  pub entered_end : (t : List ℕ) → entered i (drop i l) t ≡ t
-  unfolding entered
-  entered_end t = rw (drop_of_length-le l h)
-
-  -- no tab stands past the end
-  pub past_none : i ≡ past_tab l i
-  unfolding past_tab
-  past_none = rw (beyond l i h)
+-- no tab stands past the end
+pub past_none : (l : List ℕ) (i : ℕ) → length l ≤ i → i ≡ past_tab l i
+unfolding past_tab
+past_none l i h = rw (beyond l i h)
 
 -- ---- the lines of a text, one after the other
 

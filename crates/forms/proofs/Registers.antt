@@ -1,5 +1,6 @@
 -- A register's one or two digits.
 -- Assumes nothing.
+use Rattle.std.specs.Prelude.{None, Some}
 use Prim.Native.Nat.{ℕ, ◌+◌, ◌<◌, ◌≤◌}
 use mathlib.Core.Path.{◌≡◌, refl, ◌∙◌}
 use mathlib.Core.Bool.{Bool, true, false, cond}
@@ -11,15 +12,14 @@ use borrow.Author.Tests.{lt-ltb, le-ltb, ltb-true, ltb-false, ne_eqb}
 use Rattle.text.specs.Digits.{value_of, digits_read}
 use Rattle.text.specs.Fields.{same_of}
 use Rattle.text.specs.Words.{ascii}
-use Rattle.text.specs.declared.Read.{Read}
 use Rattle.forms.specs.Form.{below, numbered_of}
 
 -- a last digit worth v, below m, after digits worth n
 module _ (n m v : ℕ) (h : n + m ≤ 16) (k : m ≤ 10) (f : m ≤ v → v < 10 → 16 ≤ n + v) where
-  last : cond (ltb v m) (n + v) 16 ≡ below 16 (cond (ltb v 10) (Read.Number (n + v)) Read.Nothing)
+  last : cond (ltb v m) (n + v) 16 ≡ below 16 (cond (ltb v 10) (Some (n + v)) None)
   last = go (ltb v m) refl (ltb v 10) refl
     where
-      go : (s : Bool) → ltb v m ≡ s → (t : Bool) → ltb v 10 ≡ t → cond s (n + v) 16 ≡ below 16 (cond t (Read.Number (n + v)) Read.Nothing)
+      go : (s : Bool) → ltb v m ≡ s → (t : Bool) → ltb v 10 ≡ t → cond s (n + v) 16 ≡ below 16 (cond t (Some (n + v)) None)
       go true p true q = let i = ltb-true v m p in rw (lt-ltb (n + v) 16 (omega arith))
       go true p false q = let i = ltb-true v m p in let l = ltb-false v 10 q in absurd (omega arith)
       go false p true q = let i = f (ltb-false v m p) (ltb-true v 10 q) in rw (le-ltb (n + v) 16 i)

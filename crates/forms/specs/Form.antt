@@ -1,12 +1,11 @@
 -- The lines of a text and their form (document 02, ticket 4): "one instruction a line, a label field that may be empty, mnemonic and operands in
 -- document 01's written form, `word` and `half` .. for data".
 -- Assumes nothing.
-use Rattle.std.specs.Prelude.{ℕ, zero, suc, ◌+◌, ◌-◌, ◌*◌, Bool, true, false, cond, ◌&&◌, ◌||◌, List, [], ◌∷◌, ltb, eqb, length, get_or, take, drop}
+use Rattle.std.specs.Prelude.{ℕ, zero, suc, ◌+◌, ◌-◌, ◌*◌, Bool, true, false, cond, ◌&&◌, ◌||◌, List, [], ◌∷◌, ltb, eqb, length, get_or, take, drop, None, Option, Some}
 use Rattle.word.specs.Bits.{num}
 use Rattle.text.specs.Digits.{decimal_of}
 use Rattle.text.specs.Fields.{before_of, beyond_of, same_of}
 use Rattle.text.specs.Words.{ascii}
-use Rattle.text.specs.declared.Read.{Read}
 use Rattle.isa.specs.Codes.{kind_of}
 use Rattle.isa.specs.declared.Kind.{Kind}
 use Rattle.listing.specs.Names.{half_place, name_at}
@@ -98,9 +97,9 @@ shape_of What.Half = shape 2 Sort.Sum Sort.Nothing Sort.Nothing
 shape_of What.Word = shape 4 Sort.Sum Sort.Nothing Sort.Nothing
 
 -- a number below n after these letters; n where there is none
-abbrev pub below : ℕ → Read → ℕ
-below n (Read.Number v) = cond (ltb v n) v n
-below n Read.Nothing = n
+abbrev pub below : ℕ → Option ℕ → ℕ
+below n (Some v) = cond (ltb v n) v n
+below n None = n
 
 unfoldable pub numbered_of : List ℕ → ℕ → List ℕ → ℕ
 numbered_of p n f = cond (same_of (take (length p) f) p) (below n (decimal_of (drop (length p) f))) n

@@ -13,19 +13,19 @@ pub fn what_of(name: &[u8], table: &[u64; 312]) -> What
     what_at(place_in(table, expr::label(name)))
 }
 
+#[tactic(auto, unfolding(crate::specs::Form::number_at))]
 pub fn number_at(s: Sort, field: &[u8]) -> u32
     ensures { result ≡ number_at s field.now }
 {
     match s {
-        Sort::Nothing => 0,
-        Sort::Never => 0,
         Sort::Reg => register(field),
         Sort::Sfr => numbered(b"sfr", 11, field),
         Sort::LowSfr => numbered(b"sfr", 4, field),
-        Sort::Sum => 0,
+        Sort::Nothing | Sort::Never | Sort::Sum => 0,
     }
 }
 
+#[tactic(auto, unfolding(crate::specs::Form::is_of))]
 fn is_of(s: Sort, field: &[u8]) -> bool
     ensures { result ≡ is_of s field.now }
 {
@@ -42,36 +42,18 @@ fn is_of(s: Sort, field: &[u8]) -> bool
 fn is_label(field: &[u8]) -> bool
     ensures { result ≡ is_label field.now }
 {
-    if field.len() == 0 {
-        return true;
-    }
-    0 < expr::label(field)
+    field.is_empty() || 0 < expr::label(field)
 }
 
 fn fits_shape(s: Shape, tabs: usize, x: &[u8], y: &[u8], z: &[u8]) -> bool
     ensures { result ≡ fits_fields s tabs x.now y.now z.now }
 {
-    if tabs == tabs_for(s) {
-        let first = s.first;
-        let second = s.second;
-        let third = s.third;
-        if is_of(first, x) {
-            if is_of(second, y) {
-                return is_of(third, z);
-            }
-            return false;
-        }
-        return false;
-    }
-    false
+    tabs == tabs_for(s) && is_of(s.first, x) && is_of(s.second, y) && is_of(s.third, z)
 }
 
 // Whether a line is of known form that has so many tabs, its own label, and three operand fields, of which it may lack some.
 pub fn is_known(s: Shape, tabs: usize, label: &[u8], x: &[u8], y: &[u8], z: &[u8]) -> bool
     ensures { result ≡ known_fields s tabs label.now x.now y.now z.now }
 {
-    if is_label(label) {
-        return fits_shape(s, tabs, x, y, z);
-    }
-    false
+    is_label(label) && fits_shape(s, tabs, x, y, z)
 }

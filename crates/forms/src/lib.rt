@@ -41,7 +41,7 @@ pub struct Shape {
 }
 
 // Field n of a line stands from `fromn` to `ton`, and the first from 0 on: its own label, its mnemonic, three operands. Fields that it lacks
-// are empty, at its end.
+// are empty, at its end. The definition cut_in names the ten places one by one, so they are no array of ranges.
 #[derive(Clone, Copy)]
 pub struct Cut {
     pub to0: usize,

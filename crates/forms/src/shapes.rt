@@ -26,15 +26,14 @@ fn numbers() -> [u64; 83]
 }
 
 // The slot of a name's number is its rest modulo 312, in which no two mnemonics agree. It holds the number and the place.
+#[tactic(auto, unfolding(crate::specs::Parts::with_entry))]
 fn put_entry(table: &mut [u64; 312], k: u64, place: usize)
     requires { (k < 2 ^ 32) × (place < 83) }
     ensures { table.new ≡ with_entry table.old k place }
 {
-    if k == 0 {
-        return;
+    if k != 0 {
+        table[(k % 312) as usize] = k * 128 + place as u64;
     }
-    let slot = (k % 312) as usize;
-    table[slot] = k * 128 + place as u64;
 }
 
 // A slot for each rest, so that a mnemonic is found at once.
@@ -43,52 +42,47 @@ pub fn table() -> [u64; 312]
 {
     let names = numbers();
     let mut table = [0u64; 312];
-    let mut place: usize = 0;
-    while place < 83 {
-        put_entry(&mut table, names[place], place);
-        place += 1;
+    for (place, name) in names.iter().enumerate() {
+        put_entry(&mut table, *name, place);
     }
     table
 }
 
-// The place of a name's number; 83 where it is no mnemonic's.
+// The place of a name's number; 83 where it is no mnemonic's. It is no `None`, since the definition place_in says this number.
+#[tactic(auto, unfolding(crate::specs::Parts::place_in))]
 pub fn place_in(table: &[u64; 312], k: u64) -> usize
     ensures { result ≡ place_in table.now k }
 {
-    let slot = (k % 312) as usize;
-    let entry = table[slot];
+    let entry = table[(k % 312) as usize];
     if entry / 128 == k {
-        return (entry % 128) as usize;
+        (entry % 128) as usize
+    } else {
+        83
     }
-    83
 }
 
+#[tactic(auto, unfolding(crate::specs::Form::byte_of))]
 fn byte_of(place: usize) -> u8
     requires { place < 81 }
     ensures { result ≡ byte_of place }
 {
-    if place < 64 {
-        return place as u8;
+    match place {
+        0..64 => place as u8,
+        64..74 => ((place - 60) * 16) as u8,
+        _ => ((place - 18) * 4) as u8,
     }
-    if place < 74 {
-        return ((place - 60) * 16) as u8;
-    }
-    ((place - 18) * 4) as u8
 }
 
+#[tactic(auto, unfolding(crate::specs::Form::what_at))]
 pub fn what_at(place: usize) -> What
     ensures { result ≡ what_at place }
 {
-    if place < 81 {
-        return What::Code(isa::kind_of(byte_of(place)));
+    match place {
+        0..81 => What::Code(isa::kind_of(byte_of(place))),
+        81 => What::Half,
+        82 => What::Word,
+        _ => What::Code(Kind::Nothing),
     }
-    if place == 81 {
-        return What::Half;
-    }
-    if place == 82 {
-        return What::Word;
-    }
-    What::Code(Kind::Nothing)
 }
 
 fn shape(size: u32, first: Sort, second: Sort, third: Sort) -> Shape
@@ -102,32 +96,31 @@ fn shape(size: u32, first: Sort, second: Sort, third: Sort) -> Shape
     }
 }
 
+#[tactic(auto, unfolding(crate::specs::Form::kind_shape))]
 fn kind_shape(k: Kind) -> Shape
     ensures { result ≡ kind_shape k }
 {
     match k {
         Kind::Nothing => shape(2, Sort::Never, Sort::Nothing, Sort::Nothing),
-        Kind::Alu(_) => shape(2, Sort::Reg, Sort::Reg, Sort::Nothing),
-        Kind::ShiftImm(_) => shape(2, Sort::Reg, Sort::Sum, Sort::Nothing),
-        Kind::Cmp(_) => shape(2, Sort::Reg, Sort::Reg, Sort::Nothing),
-        Kind::CmpImm(_) => shape(2, Sort::Reg, Sort::Sum, Sort::Nothing),
-        Kind::Cond(_, _) => shape(2, Sort::Reg, Sort::Reg, Sort::Nothing),
-        Kind::CondImm(_) => shape(2, Sort::Reg, Sort::Sum, Sort::Nothing),
-        Kind::Ldrpc => shape(2, Sort::Reg, Sort::Sum, Sort::Nothing),
-        Kind::Imm(_) => shape(2, Sort::Reg, Sort::Sum, Sort::Nothing),
-        Kind::Load(_) => shape(2, Sort::Reg, Sort::Sum, Sort::Reg),
-        Kind::Store(_) => shape(2, Sort::Reg, Sort::Sum, Sort::Reg),
+        Kind::Alu(_) | Kind::Cmp(_) | Kind::Cond(_, _) => shape(
+            2,
+            Sort::Reg,
+            Sort::Reg,
+            Sort::Nothing,
+        ),
+        Kind::ShiftImm(_) | Kind::CmpImm(_) | Kind::CondImm(_) | Kind::Ldrpc | Kind::Imm(_) =>
+            shape(2, Sort::Reg, Sort::Sum, Sort::Nothing),
+        Kind::Load(_) | Kind::Store(_) => shape(2, Sort::Reg, Sort::Sum, Sort::Reg),
         Kind::Mfsfr => shape(2, Sort::Reg, Sort::Sfr, Sort::Nothing),
         Kind::Mtsfr => shape(2, Sort::Sfr, Sort::Reg, Sort::Nothing),
-        Kind::Jr => shape(2, Sort::Reg, Sort::Nothing, Sort::Nothing),
-        Kind::Jrl => shape(2, Sort::Reg, Sort::Nothing, Sort::Nothing),
+        Kind::Jr | Kind::Jrl => shape(2, Sort::Reg, Sort::Nothing, Sort::Nothing),
         Kind::Jsfr => shape(2, Sort::LowSfr, Sort::Nothing, Sort::Nothing),
-        Kind::Swint => shape(2, Sort::Sum, Sort::Nothing, Sort::Nothing),
-        Kind::ShortJump(_) => shape(2, Sort::Sum, Sort::Nothing, Sort::Nothing),
+        Kind::Swint | Kind::ShortJump(_) => shape(2, Sort::Sum, Sort::Nothing, Sort::Nothing),
         Kind::LongJump(_) => shape(4, Sort::Sum, Sort::Nothing, Sort::Nothing),
     }
 }
 
+#[tactic(auto, unfolding(crate::specs::Form::shape_of))]
 pub fn shape_of(w: What) -> Shape
     ensures { result ≡ shape_of w }
 {
@@ -138,24 +131,20 @@ pub fn shape_of(w: What) -> Shape
     }
 }
 
-fn below_limit(limit: u32, n: text::Read) -> u32
+fn below_limit(limit: u32, n: Option<u32>) -> u32
     ensures { result ≡ below limit n }
 {
-    match n {
-        text::Read::Number(v) => { if v < limit { v } else { limit } }
-        text::Read::Nothing => limit,
-    }
+    n.unwrap_or(limit).min(limit)
 }
 
 // The number after a register's or an SFR's letters; the limit where there is none.
 pub fn numbered(letters: &[u8], limit: u32, field: &[u8]) -> u32
     ensures { result ≡ numbered_of letters.now limit field.now }
 {
-    let n = letters.len();
-    if text::is_same(text::start_part(field, n), letters) {
-        return below_limit(limit, text::decimal(text::end_part(field, n)));
+    match field.strip_prefix(letters) {
+        Some(rest) => below_limit(limit, text::decimal(rest)),
+        None => limit,
     }
-    limit
 }
 
 fn digit_below(limit: u32, from: u32, c: u8) -> u32
@@ -163,52 +152,33 @@ fn digit_below(limit: u32, from: u32, c: u8) -> u32
     ensures { result ≡ cond (ltb (value_of c) limit) (from + value_of c) 16 }
 {
     let d = text::value(c);
-    if d < limit {
-        return from + d;
-    }
-    16
+    if d < limit { from + d } else { 16 }
 }
 
 // The number of a register. One digit, or two of which the first is 1, are read at once.
 pub fn register(field: &[u8]) -> u32
     ensures { result ≡ numbered_of (ascii "r") 16 field.now }
 {
-    if field.len() == 2 {
-        if field[0] == 114 {
-            return digit_below(10, 0, field[1]);
-        }
-        return 16;
+    match field {
+        [b'r', c] => digit_below(10, 0, *c),
+        [_, _] => 16,
+        [b'r', b'1', c] => digit_below(6, 10, *c),
+        [_, b'1', _] => 16,
+        _ => numbered(b"r", 16, field),
     }
-    if field.len() == 3 {
-        if field[1] == 49 {
-            if field[0] == 114 {
-                return digit_below(6, 10, field[2]);
-            }
-            return 16;
-        }
-        return numbered(b"r", 16, field);
-    }
-    numbered(b"r", 16, field)
 }
 
 fn fields_of(s: Sort) -> usize
     ensures { (result ≡ fields_of s) × (result ≤ 1) }
 {
     match s {
-        Sort::Nothing => 0,
-        Sort::Never => 0,
-        Sort::Reg => 1,
-        Sort::Sfr => 1,
-        Sort::LowSfr => 1,
-        Sort::Sum => 1,
+        Sort::Nothing | Sort::Never => 0,
+        Sort::Reg | Sort::Sfr | Sort::LowSfr | Sort::Sum => 1,
     }
 }
 
 pub fn tabs_for(s: Shape) -> usize
     ensures { result ≡ tabs_for s }
 {
-    let first = s.first;
-    let second = s.second;
-    let third = s.third;
-    1 + fields_of(first) + fields_of(second) + fields_of(third)
+    1 + fields_of(s.first) + fields_of(s.second) + fields_of(s.third)
 }

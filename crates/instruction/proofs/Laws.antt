@@ -1,5 +1,6 @@
 -- The parts of a fetch, put together, are the fetch.
 -- Assumes nothing.
+use Rattle.std.specs.Prelude.{Err, Ok, Result}
 use Prim.Native.Nat.{ℕ, ◌/◌, ◌%◌}
 use mathlib.Core.Path.{◌≡◌, refl, ap, ◌∙◌}
 use mathlib.Core.Bool.{Bool, true, false, cond, not, ◌&&◌}
@@ -16,17 +17,15 @@ use Rattle.marks.specs.Memory.{Marks, marked_at}
 use Rattle.instruction.specs.Fetch.{half_at, after_half, guarded, found, fetch_of}
 use Rattle.instruction.specs.Parts.{half_of, first_half, second_half, decoded_to, by_second, rest_by, by_first}
 use Rattle.instruction.specs.declared.Halt.{Halt}
-use Rattle.instruction.specs.declared.Fetched.{Fetched}
-use Rattle.instruction.specs.declared.Half.{Half}
 
-pub by_second_lem : (d : Kind) (h : ℕ) (a : ByteAddr) (m : List ℕ) (k : Marks) (x : Half) → x ≡ second_half d (after_half a) m k → by_second x d h ≡ rest_by d h a m k
+pub by_second_lem : (d : Kind) (h : ℕ) (a : ByteAddr) (m : List ℕ) (k : Marks) (x : Result ℕ Halt) → x ≡ second_half d (after_half a) m k → by_second x d h ≡ rest_by d h a m k
 unfolding rest_by
-by_second_lem d h a m k x e = ap (λ (y : Half). by_second y d h) e
+by_second_lem d h a m k x e = ap (λ (y : Result ℕ Halt). by_second y d h) e
 
 -- a half's two tests, before what comes of it
 tests : (t u : Bool) (d : Kind) (h s : ℕ)
-    → cond t (Fetched.Halted Halt.FetchOutside) (cond u (Fetched.Halted Halt.FetchMarked) (decoded_to (operands_of d h s)))
-    ≡ by_second (cond t (Half.Halted Halt.FetchOutside) (cond u (Half.Halted Halt.FetchMarked) (Half.Bits s))) d h
+    → cond t (Err Halt.FetchOutside) (cond u (Err Halt.FetchMarked) (decoded_to (operands_of d h s)))
+    ≡ by_second (cond t (Err Halt.FetchOutside) (cond u (Err Halt.FetchMarked) (Ok s))) d h
 tests true u d h s = refl
 tests false true d h s = refl
 tests false false d h s = refl
@@ -69,13 +68,13 @@ found_by_kind h a m k = go (kind_of (h / 256))
 pub fetch_by_parts : (a : ByteAddr) (m : List ℕ) (k : Marks) → fetch_of a m k ≡ by_first (first_half a m k) a m k
 unfolding fetch_of first_half half_of
 fetch_by_parts a m k =
-    ap (λ (x : Fetched). cond (eqb (a.0 % 2) 1) (Fetched.Halted Halt.NoInstruction) (guarded a m k x)) (found_by_kind (half_at m a) a m k)
+    ap (λ (x : Result Instr Halt). cond (eqb (a.0 % 2) 1) (Err Halt.NoInstruction) (guarded a m k x)) (found_by_kind (half_at m a) a m k)
     ∙ go (eqb (a.0 % 2) 1) (not (inside m a 2)) (marked_at Width.Half k a)
   where
     go : (o t u : Bool)
-        → cond o (Fetched.Halted Halt.NoInstruction)
-        (cond t (Fetched.Halted Halt.FetchOutside) (cond u (Fetched.Halted Halt.FetchMarked) (rest_by (kind_of (half_at m a / 256)) (half_at m a) a m k)))
-        ≡ by_first (cond o (Half.Halted Halt.NoInstruction) (cond t (Half.Halted Halt.FetchOutside) (cond u (Half.Halted Halt.FetchMarked) (Half.Bits (half_at m a))))) a m k
+        → cond o (Err Halt.NoInstruction)
+        (cond t (Err Halt.FetchOutside) (cond u (Err Halt.FetchMarked) (rest_by (kind_of (half_at m a / 256)) (half_at m a) a m k)))
+        ≡ by_first (cond o (Err Halt.NoInstruction) (cond t (Err Halt.FetchOutside) (cond u (Err Halt.FetchMarked) (Ok (half_at m a))))) a m k
     go true t u = refl
     go false true u = refl
     go false false true = refl

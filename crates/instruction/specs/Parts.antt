@@ -1,6 +1,6 @@
 -- Parts that only the contracts of this crate's helpers cite. None is needed to say what the machine does; proofs/Laws.antt ties them to fetch_of and act_of.
 -- Assumes nothing.
-use Rattle.std.specs.Prelude.{ℕ, ◌/◌, Bool, true, false, cond, not, List}
+use Rattle.std.specs.Prelude.{ℕ, ◌/◌, Bool, true, false, cond, not, List, Err, None, Ok, Option, Result, Some}
 use Rattle.word.specs.Addresses.{is_odd}
 use Rattle.word.specs.Bytes.{bytes_of, inside, load_of}
 use Rattle.word.specs.declared.ByteAddr.{ByteAddr}
@@ -18,10 +18,10 @@ use Rattle.marks.specs.declared.Flags.{Flags}
 use Rattle.instruction.specs.Fetch.{half_at, after_half}
 use Rattle.instruction.specs.Act.{Val}
 use Rattle.instruction.specs.declared.Halt.{Halt}
-use Rattle.instruction.specs.declared.Fetched.{Fetched}
-use Rattle.instruction.specs.declared.Half.{Half}
 use Rattle.instruction.specs.declared.Reach.{Reach}
 use Rattle.instruction.specs.declared.Act.{Act}
+use Rattle.cpu.specs.declared.Effect.{Effect}
+use Rattle.marks.specs.declared.Taint.{Taint}
 
 -- a value and its mark, and the marks of TF and CY, which the code passes apart
 abbrev pub val : ℕ → Bool → Val
@@ -33,13 +33,13 @@ flags tf cy = record { tf = tf; cy = cy }
 -- ---- a fetch in two parts: the first half, and the rest by its kind
 
 -- the half at a, or why it cannot be read
-unfoldable pub half_of : ByteAddr → List ℕ → Marks → Half
+unfoldable pub half_of : ByteAddr → List ℕ → Marks → Result ℕ Halt
 half_of a m k =
-    cond (not (inside m a (bytes_of Width.Half))) (Half.Halted Halt.FetchOutside)
-    (cond (marked_at Width.Half k a) (Half.Halted Halt.FetchMarked) (Half.Bits (half_at m a)))
+    cond (not (inside m a (bytes_of Width.Half))) (Err Halt.FetchOutside)
+    (cond (marked_at Width.Half k a) (Err Halt.FetchMarked) (Ok (half_at m a)))
 
-unfoldable pub first_half : ByteAddr → List ℕ → Marks → Half
-first_half a m k = cond (is_odd a) (Half.Halted Halt.NoInstruction) (half_of a m k)
+unfoldable pub first_half : ByteAddr → List ℕ → Marks → Result ℕ Halt
+first_half a m k = cond (is_odd a) (Err Halt.NoInstruction) (half_of a m k)
 
 -- the kinds of four bytes
 abbrev pub is_long_kind : Kind → Bool
@@ -64,26 +64,26 @@ is_long_kind (Kind.ShortJump op) = false
 is_long_kind (Kind.LongJump op) = true
 
 -- a second half, 0 for the kinds of two bytes
-unfoldable pub second_half : Kind → ByteAddr → List ℕ → Marks → Half
-second_half d a m k = cond (is_long_kind d) (half_of a m k) (Half.Bits 0)
+unfoldable pub second_half : Kind → ByteAddr → List ℕ → Marks → Result ℕ Halt
+second_half d a m k = cond (is_long_kind d) (half_of a m k) (Ok 0)
 
-abbrev pub decoded_to : Decoded → Fetched
-decoded_to (Decoded.Short i) = Fetched.Run i
-decoded_to (Decoded.Long i) = Fetched.Run i
-decoded_to Decoded.Nothing = Fetched.Halted Halt.NoInstruction
+abbrev pub decoded_to : Option Decoded → Result Instr Halt
+decoded_to (Some (Decoded.Short i)) = Ok i
+decoded_to (Some (Decoded.Long i)) = Ok i
+decoded_to None = Err Halt.NoInstruction
 
-abbrev pub by_second : Half → Kind → ℕ → Fetched
-by_second (Half.Halted r) d h = Fetched.Halted r
-by_second (Half.Bits s) d h = decoded_to (operands_of d h s)
+abbrev pub by_second : Result ℕ Halt → Kind → ℕ → Result Instr Halt
+by_second (Err r) d h = Err r
+by_second (Ok s) d h = decoded_to (operands_of d h s)
 
 -- the first half is h, at a, and of kind d
-unfoldable pub rest_by : Kind → ℕ → ByteAddr → List ℕ → Marks → Fetched
+unfoldable pub rest_by : Kind → ℕ → ByteAddr → List ℕ → Marks → Result Instr Halt
 rest_by d h a m k = by_second (second_half d (after_half a) m k) d h
 
 -- the fetch by its first half
-abbrev pub by_first : Half → ByteAddr → List ℕ → Marks → Fetched
-by_first (Half.Halted r) a m k = Fetched.Halted r
-by_first (Half.Bits h) a m k = rest_by (kind_of (h / 256)) h a m k
+abbrev pub by_first : Result ℕ Halt → ByteAddr → List ℕ → Marks → Result Instr Halt
+by_first (Err r) a m k = Err r
+by_first (Ok h) a m k = rest_by (kind_of (h / 256)) h a m k
 
 -- ---- a load of register d and a store, at an address
 

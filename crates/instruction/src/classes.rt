@@ -1,5 +1,7 @@
 // What an instruction does or why it is not done, one function for each class. The operands' values u and v, their marks mu and mv, and the marks of TF and CY
 // are passed apart: as a struct of 8 bytes or less each would be packed and unpacked on the way.
+#![tactic(auto, unfolding(crate::specs::Act::act_of, crate::specs::Act::reach_of, cpu::specs::Exec::exec, cpu::specs::Exec::makes, cpu::specs::Cycles::cost_of, marks::specs::Marks::taint, marks::specs::Marks::blocked))]
+
 ghost use Rattle.std.specs.Prelude.{◌≡◌, false, cond, ◌||◌, ℕ};
 ghost use Rattle.word.specs.Bits.{on};
 ghost use Rattle.word.specs.declared.Width.{Width};
@@ -48,19 +50,21 @@ fn halt_outside(marked: bool) -> Act
     stop_if(marked, Act::Halted(Halt::DataOutside))
 }
 
-fn load_at(
-    marked: bool,
+fn load_on(
     w: Width,
-    at: ByteAddr,
     d: u32,
+    n: u32,
+    base: u32,
+    marked: bool,
     tf: bool,
     cy: bool,
     c: Control,
     m: &[u8],
     mk: &[u8],
 ) -> Act
-    ensures { result ≡ cond marked (Act.Halted Halt.MarkedOperand) (load_act w at d (flags tf cy) c m.now (bits mk.now)) }
+    ensures { result ≡ cond marked (Act.Halted Halt.MarkedOperand) (load_act w (data_address w base n) d (flags tf cy) c m.now (bits mk.now)) }
 {
+    let at = cpu::data_address(w, base, n);
     if word::is_inside(w, m, at) {
         let e = cpu::loaded(d, word::load(w, m, at), c);
         let t = marks::mark_reg(marks::memory::is_marked(w, mk, at), tf, cy);
@@ -79,31 +83,6 @@ fn store_at(marked: bool, w: Width, at: ByteAddr, tf: bool, cy: bool, c: Control
         );
     }
     halt_outside(marked)
-}
-
-fn load_pc(d: u32, n: u32, tf: bool, cy: bool, c: Control, m: &[u8], mk: &[u8]) -> Act
-    ensures { result ≡ load_act Width.Word (data_address Width.Word c.pc n) d (flags tf cy) c m.now (bits mk.now) }
-{
-    let at = cpu::data_address(Width::Word, c.pc, n);
-    load_at(false, Width::Word, at, d, tf, cy, c, m, mk)
-}
-
-fn load_on(
-    w: Width,
-    d: u32,
-    n: u32,
-    v: u32,
-    mv: bool,
-    tf: bool,
-    cy: bool,
-    c: Control,
-    m: &[u8],
-    mk: &[u8],
-) -> Act
-    ensures { result ≡ cond mv (Act.Halted Halt.MarkedOperand) (load_act w (data_address w v n) d (flags tf cy) c m.now (bits mk.now)) }
-{
-    let at = cpu::data_address(w, v, n);
-    load_at(mv, w, at, d, tf, cy, c, m, mk)
 }
 
 fn alu_on(
@@ -144,7 +123,7 @@ fn compare_on(op: CmpOp, u: u32, mu: bool, v: u32, mv: bool, tf: bool, cy: bool,
     ensures { result ≡ Act.Does (exec (Instr.Cmp op 0 0) u v 0 c) (with false (flags (mu || mv) cy)) Reach.Nowhere }
 {
     let e = cpu::compare(op, u, v, c);
-    does(e, marks::mark_tf(word::either(mu, mv), tf, cy))
+    does(e, marks::mark_tf(mu || mv, tf, cy))
 }
 
 fn conditional_on(
@@ -191,9 +170,9 @@ pub fn act_on(
         Instr::Cond(op, t, d, _) => conditional_on(op, t, d, u, mu, v, mv, tf, cy, c),
         Instr::CondImm(t, d, n) => does(
             cpu::conditional_imm(t, d, n, u, c),
-            marks::mark_reg(word::either(tf, mu), tf, cy),
+            marks::mark_reg(tf || mu, tf, cy),
         ),
-        Instr::Ldrpc(d, n) => load_pc(d, n, tf, cy, c, m, mk),
+        Instr::Ldrpc(d, n) => load_on(Width::Word, d, n, c.pc, false, tf, cy, c, m, mk),
         Instr::Imm(op, d, n) => does(
             cpu::immediate(op, d, n, u, c),
             marks::mark_imm(op, mu, tf, cy),

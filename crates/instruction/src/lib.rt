@@ -12,41 +12,29 @@ use isa::Instr;
 use marks::Taint;
 use word::{ByteAddr, Width};
 
-#[derive(Clone, Copy)]
+// The answers of a run, with document 01's numbers.
+#[derive(Clone, Copy, Debug, PartialEq, Eq)]
 pub enum Reply {
-    MemoryLength,
-    MarkLength,
-    MarkPastEnd,
-    Form,
-    TapeLength,
-    TapeByte,
-    Budget,
-    FetchMarked,
-    NoInstruction,
-    MarkedOperand,
+    MemoryLength = 1,
+    MarkLength = 2,
+    MarkPastEnd = 3,
+    Form = 4,
+    TapeLength = 5,
+    TapeByte = 6,
+    Budget = 10,
+    FetchMarked = 12,
+    NoInstruction = 13,
+    MarkedOperand = 14,
 }
 
 // Why an instruction is not done, in the order of the tests. An access outside memory is a bus error; the others stop the run.
-#[derive(Clone, Copy)]
+#[derive(Clone, Copy, Debug, PartialEq, Eq)]
 pub enum Halt {
     FetchOutside,
     FetchMarked,
     NoInstruction,
     MarkedOperand,
     DataOutside,
-}
-
-#[derive(Clone, Copy)]
-pub enum Fetched {
-    Halted(Halt),
-    Run(Instr),
-}
-
-// Half an instruction, or why it cannot be read.
-#[derive(Clone, Copy)]
-pub enum Half {
-    Halted(Halt),
-    Bits(u16),
 }
 
 // What an instruction reaches beside the registers: memory, or the entry of a swint.
@@ -58,27 +46,15 @@ pub enum Reach {
     Raises(u32),
 }
 
+pub fn number(r: Reply) -> u32
+    ensures { result ≡ number_of r }
+{
+    r as u32
+}
+
 // One instruction: it is not done, or has an effect, marks, and a place that it reaches.
 #[derive(Clone, Copy)]
 pub enum Act {
     Halted(Halt),
     Does(Effect, Taint, Reach),
-}
-
-// Document 01's numbers.
-pub fn number(r: Reply) -> u32
-    ensures { result ≡ number_of r }
-{
-    match r {
-        Reply::MemoryLength => 1,
-        Reply::MarkLength => 2,
-        Reply::MarkPastEnd => 3,
-        Reply::Form => 4,
-        Reply::TapeLength => 5,
-        Reply::TapeByte => 6,
-        Reply::Budget => 10,
-        Reply::FetchMarked => 12,
-        Reply::NoInstruction => 13,
-        Reply::MarkedOperand => 14,
-    }
 }

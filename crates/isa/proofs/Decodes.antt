@@ -1,5 +1,6 @@
 -- The bits of an instruction decode to it.
 -- Assumes nothing.
+use Rattle.std.specs.Prelude.{Option, Some}
 use mathlib.Core.Path.{◌≡◌, refl, ap, ◌∙◌}
 use mathlib.Core.Bool.{Bool, true, false, ◌&&◌}
 use Prim.Native.Nat.{ℕ, ◌+◌, ◌*◌, ◌/◌, ◌%◌, ◌^◌, ◌<◌}
@@ -24,7 +25,7 @@ use Rattle.isa.proofs.Codes as codes
 use Rattle.isa.proofs.Codes.{Code}
 use Rattle.isa.proofs.Rows.{and_left, and_right}
 
-only_back : (t : Bool) (e : Encoded) (i : Instr) → (t ≡ true → DecodesTo e i) → DecodesTo (only t e) i
+only_back : (t : Bool) (e : Option Encoded) (i : Instr) → (t ≡ true → DecodesTo e i) → DecodesTo (only t e) i
 only_back true e i f = f refl
 only_back false e i f = tt
 
@@ -43,7 +44,7 @@ module _ (a b c d : ℕ) (ha : a < 16) (hb : b < 16) (hc : c < 16) (hd : d < 16)
 
 -- a half of kind k, with b, c and d in its nibbles, is i
 abbrev Means : Kind → ℕ → ℕ → ℕ → Instr → Type 0
-Means k b c d i = (h s : ℕ) → nib_b h ≡ b → nib_c h ≡ c → nib_d h ≡ d → operands_of k h s ≡ Decoded.Short i
+Means k b c d i = (h s : ℕ) → nib_b h ≡ b → nib_c h ≡ c → nib_d h ≡ d → operands_of k h s ≡ Some (Decoded.Short i)
 
 nibs_back : (a b c d : ℕ) (k : Kind) (i : Instr) → (b < 16 → Code a b k) → Means k b c d i → DecodesTo (nibs_of a b c d) i
 unfolding nibs_of decode_of
@@ -61,21 +62,21 @@ nibs_back a b c d k i code f =
     ∙ f h s (b_of a b c d ha hb hc hd) (c_of a b c d ha hb hc hd) (d_of a b c d ha hb hc hd)
 
 signed_back : (b c x : ℕ) (k : Kind) (i : Instr) → Code 3 b k
-    → ((h s : ℕ) → nib_c h ≡ c → extend_of 4 (nib_d h) ≡ x → operands_of k h s ≡ Decoded.Short i) → DecodesTo (nibs_signed b c x) i
+    → ((h s : ℕ) → nib_c h ≡ c → extend_of 4 (nib_d h) ≡ x → operands_of k h s ≡ Some (Decoded.Short i)) → DecodesTo (nibs_signed b c x) i
 unfolding nibs_signed
 signed_back b c x k i code f =
     only_back (fits_of 4 x) _ i λ t. nibs_back 3 b c (x % 2 ^ 4) k i (λ _. code)
     λ h s eb ec ed. f h s ec (ap (λ (n : ℕ). extend_of 4 n) ed ∙ extend_fits 4 (lit< tt) (lit≤ tt) x t)
 
 byte_back : (a c n : ℕ) (k : Kind) (i : Instr) → ((b : ℕ) → b < 16 → Code a b k)
-    → ((h s : ℕ) → nib_c h ≡ c → imm8 h ≡ n → operands_of k h s ≡ Decoded.Short i) → DecodesTo (nibs_byte a c n) i
+    → ((h s : ℕ) → nib_c h ≡ c → imm8 h ≡ n → operands_of k h s ≡ Some (Decoded.Short i)) → DecodesTo (nibs_byte a c n) i
 unfolding nibs_byte
 byte_back a c n k i code f =
     only_back (ltb n 256) _ i λ t. nibs_back a (n / 16) c (n % 16) k i (code (n / 16))
     λ h s eb ec ed. f h s ec (omega arith)
 
 signed_byte_back : (a c x : ℕ) (k : Kind) (i : Instr) → ((b : ℕ) → b < 16 → Code a b k)
-    → ((h s : ℕ) → nib_c h ≡ c → extend_of 8 (imm8 h) ≡ x → operands_of k h s ≡ Decoded.Short i) → DecodesTo (nibs_signed_byte a c x) i
+    → ((h s : ℕ) → nib_c h ≡ c → extend_of 8 (imm8 h) ≡ x → operands_of k h s ≡ Some (Decoded.Short i)) → DecodesTo (nibs_signed_byte a c x) i
 unfolding nibs_signed_byte
 signed_byte_back a c x k i code f =
     only_back (fits_of 8 x) _ i λ t. byte_back a c (x % 2 ^ 8) k i code
@@ -91,7 +92,7 @@ short_back op d =
     let r : h % 2 ^ 10 ≡ n % 2 ^ 10 = omega arith in
     ap (λ (m : ℕ). operands_of (kind_of m) h s) e
     ∙ ap (λ (k : Kind). operands_of k h s) (codes.short_jump_lem op (n / 256) (omega arith))
-    ∙ ap (λ (m : ℕ). Decoded.Short (Instr.ShortJump op (record { 0 = m })))
+    ∙ ap (λ (m : ℕ). Some (Decoded.Short (Instr.ShortJump op (record { 0 = m }))))
     (ap (λ (m : ℕ). Rattle.word.specs.Numbers.signed_of 512 m) r ∙ extend_fits 10 (lit< tt) (lit≤ tt) d.0 t)
 
 long_back : (op : LongOp) (d : HalfDisp) → DecodesTo (encode_long op d) (Instr.LongJump op d)
@@ -104,7 +105,7 @@ long_back op d =
     let r : (h * 65536 + n % 65536) % 2 ^ 26 ≡ n % 2 ^ 26 = omega arith in
     ap (λ (m : ℕ). operands_of (kind_of m) h (n % 65536)) e
     ∙ ap (λ (k : Kind). operands_of k h (n % 65536)) (codes.long_jump_lem op (n / 65536 / 256) (omega arith))
-    ∙ ap (λ (m : ℕ). Decoded.Long (Instr.LongJump op (record { 0 = m })))
+    ∙ ap (λ (m : ℕ). Some (Decoded.Long (Instr.LongJump op (record { 0 = m }))))
     (ap (λ (m : ℕ). Rattle.word.specs.Numbers.signed_of 33554432 m) r ∙ extend_fits 26 (lit< tt) (lit≤ tt) d.0 t)
 
 pub decodes : (i : Instr) → DecodesTo (encode_of i) i

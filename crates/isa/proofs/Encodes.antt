@@ -1,5 +1,6 @@
 -- Bits that decode to an instruction are what it encodes to.
 -- Assumes nothing.
+use Rattle.std.specs.Prelude.{Some}
 use mathlib.Core.Path.{◌≡◌, refl, ◌∙◌, subst}
 use mathlib.Core.Bool.{Bool, true, false, ◌&&◌}
 use Prim.Native.Nat.{ℕ, ◌+◌, ◌*◌, ◌/◌, ◌%◌, ◌^◌, ◌<◌}
@@ -51,52 +52,52 @@ byte_code : (n : ℕ) → n < 256 → has_code (kind_of n) n ≡ true
 unfolding kind_of
 byte_code n h = each_at (λ (m : ℕ). has_code (kind_of m) m) 256 n refl h
 
-if_encodes : (h s : ℕ) (t : Bool) (i : Instr) → (t ≡ true → EncodesTo (Decoded.Short i) h s) → EncodesTo (short_if t i) h s
+if_encodes : (h s : ℕ) (t : Bool) (i : Instr) → (t ≡ true → EncodesTo (Some (Decoded.Short i)) h s) → EncodesTo (short_if t i) h s
 if_encodes h s true i f = f refl
 if_encodes h s false i f = tt
 
 module _ (h s : ℕ) (hh : h < 65536) (hs : s < 65536) where
   -- a half is its four nibbles
-  mem_are : (a : ℕ) → eqb (h / 256 / 16) a ≡ true → nibs_of a (nib_b h) (nib_c h) (nib_d h) ≡ Encoded.Half h
+  mem_are : (a : ℕ) → eqb (h / 256 / 16) a ≡ true → nibs_of a (nib_b h) (nib_c h) (nib_d h) ≡ Some (Encoded.Half h)
   unfolding nibs_of
   mem_are a t =
       let ea : h / 256 / 16 ≡ a = eqb-true _ _ t in
       let e : a * 4096 + nib_b h * 256 + nib_c h * 16 + nib_d h ≡ h = omega arith in
       simp (lt-ltb a 16 (omega arith), lt-ltb (nib_b h) 16 (omega arith), lt-ltb (nib_c h) 16 (omega arith), lt-ltb (nib_d h) 16 (omega arith), e)
 
-  nibs_are : (a b : ℕ) → nibbles (h / 256) a b ≡ true → nibs_of a b (nib_c h) (nib_d h) ≡ Encoded.Half h
+  nibs_are : (a b : ℕ) → nibbles (h / 256) a b ≡ true → nibs_of a b (nib_c h) (nib_d h) ≡ Some (Encoded.Half h)
   nibs_are a b t =
       let eb : nib_b h ≡ b = eqb-true _ _ (and_right (eqb (h / 256 / 16) a) (eqb (h / 256 % 16) b) t) in
-      subst (λ (x : ℕ). nibs_of a x (nib_c h) (nib_d h) ≡ Encoded.Half h) eb
+      subst (λ (x : ℕ). nibs_of a x (nib_c h) (nib_d h) ≡ Some (Encoded.Half h)) eb
       (mem_are a (and_left (eqb (h / 256 / 16) a) (eqb (h / 256 % 16) b) t))
 
-  signed_are : (b : ℕ) → nibbles (h / 256) 3 b ≡ true → nibs_signed b (nib_c h) (extend_of 4 (nib_d h)) ≡ Encoded.Half h
+  signed_are : (b : ℕ) → nibbles (h / 256) 3 b ≡ true → nibs_signed b (nib_c h) (extend_of 4 (nib_d h)) ≡ Some (Encoded.Half h)
   unfolding nibs_signed
   signed_are b t =
       let e : extend_of 4 (nib_d h) % 2 ^ 4 ≡ nib_d h = extend_low 4 (lit< tt) (lit≤ tt) (nib_d h) ∙ (omega arith) in
       rw (fits_extend 4 (lit< tt) (lit≤ tt) (nib_d h), e) (nibs_are 3 b t)
 
-  byte_are : (a : ℕ) → eqb (h / 256 / 16) a ≡ true → nibs_byte a (nib_c h) (imm8 h) ≡ Encoded.Half h
+  byte_are : (a : ℕ) → eqb (h / 256 / 16) a ≡ true → nibs_byte a (nib_c h) (imm8 h) ≡ Some (Encoded.Half h)
   unfolding nibs_byte
   byte_are a t =
       let eb : imm8 h / 16 ≡ nib_b h = omega arith in
       let ed : imm8 h % 16 ≡ nib_d h = omega arith in
       rw (lt-ltb (imm8 h) 256 (omega arith), eb, ed) (mem_are a t)
 
-  signed_byte_are : (a : ℕ) → eqb (h / 256 / 16) a ≡ true → nibs_signed_byte a (nib_c h) (extend_of 8 (imm8 h)) ≡ Encoded.Half h
+  signed_byte_are : (a : ℕ) → eqb (h / 256 / 16) a ≡ true → nibs_signed_byte a (nib_c h) (extend_of 8 (imm8 h)) ≡ Some (Encoded.Half h)
   unfolding nibs_signed_byte
   signed_byte_are a t =
       let e : extend_of 8 (imm8 h) % 2 ^ 8 ≡ imm8 h = extend_low 8 (lit< tt) (lit≤ tt) (imm8 h) ∙ (omega arith) in
       rw (fits_extend 8 (lit< tt) (lit≤ tt) (imm8 h), e) (byte_are a t)
 
-  short_are : (op : ShortOp) → eqb (h / 256 / 4) (short_no op) ≡ true → encode_short op (near_of h) ≡ Encoded.Half h
+  short_are : (op : ShortOp) → eqb (h / 256 / 4) (short_no op) ≡ true → encode_short op (near_of h) ≡ Some (Encoded.Half h)
   unfolding encode_short
   short_are op t =
       let ea : h / 256 / 4 ≡ short_no op = eqb-true _ _ t in
       let e : short_no op * 1024 + h % 2 ^ 10 ≡ h = omega arith in
       rw (fits_extend 10 (lit< tt) (lit≤ tt) h, extend_low 10 (lit< tt) (lit≤ tt) h, e)
 
-  long_are : (op : LongOp) → eqb (h / 256 / 4) (long_no op) ≡ true → encode_long op (far_of h s) ≡ Encoded.Pair h s
+  long_are : (op : LongOp) → eqb (h / 256 / 4) (long_no op) ≡ true → encode_long op (far_of h s) ≡ Some (Encoded.Pair h s)
   unfolding encode_long
   long_are op t =
       let n : ℕ = h * 65536 + s in
@@ -106,8 +107,8 @@ module _ (h s : ℕ) (hh : h < 65536) (hs : s < 65536) where
       rw (fits_extend 26 (lit< tt) (lit≤ tt) n, extend_low 26 (lit< tt) (lit≤ tt) n, e, es)
 
   -- bits 7:4 that must be zero
-  zero_are : (b : ℕ) → nibbles (h / 256) 1 b ≡ true → eqb (nib_c h) 0 ≡ true → nibs_of 1 b 0 (nib_d h) ≡ Encoded.Half h
-  zero_are b t z = subst (λ (x : ℕ). nibs_of 1 b x (nib_d h) ≡ Encoded.Half h) (eqb-true (nib_c h) 0 z) (nibs_are 1 b t)
+  zero_are : (b : ℕ) → nibbles (h / 256) 1 b ≡ true → eqb (nib_c h) 0 ≡ true → nibs_of 1 b 0 (nib_d h) ≡ Some (Encoded.Half h)
+  zero_are b t z = subst (λ (x : ℕ). nibs_of 1 b x (nib_d h) ≡ Some (Encoded.Half h)) (eqb-true (nib_c h) 0 z) (nibs_are 1 b t)
 
   filled : (k : Kind) → has_code k (h / 256) ≡ true → EncodesTo (operands_of k h s) h s
   unfolding operands_of encode_of encode_imm

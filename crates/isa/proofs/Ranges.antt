@@ -1,5 +1,6 @@
 -- The encoder has bits for an instruction exactly if its fields are in range.
 -- Assumes nothing.
+use Rattle.std.specs.Prelude.{Option, Some}
 use mathlib.Core.Path.{◌≡◌, refl, ◌∙◌}
 use mathlib.Core.Bool.{Bool, true, false, ◌&&◌, and-true}
 use Prim.Native.Nat.{ℕ, ◌+◌, ◌*◌, ◌/◌, ◌%◌, ◌^◌, ◌<◌}
@@ -18,7 +19,7 @@ use Rattle.isa.specs.declared.Encoded.{Encoded}
 use Rattle.isa.proofs.Codes as codes
 use Rattle.isa.proofs.Codes.{Code}
 
-only_bits : (t : Bool) (e : Encoded) (r : Bool) → (t ≡ true → has_bits e ≡ r) → has_bits (only t e) ≡ (t && r)
+only_bits : (t : Bool) (e : Option Encoded) (r : Bool) → (t ≡ true → has_bits e ≡ r) → has_bits (only t e) ≡ (t && r)
 only_bits true e r f = f refl
 only_bits false e r f = refl
 
@@ -26,7 +27,7 @@ nibs_bits : (a b c d : ℕ) → a < 16 → has_bits (nibs_of a b c d) ≡ (nib b
 unfolding nibs_of
 nibs_bits a b c d ha =
     rw (lt-ltb a 16 ha)
-    (only_bits (nib b && nib c && nib d) (Encoded.Half (a * 4096 + b * 256 + c * 16 + d)) true (λ _. refl) ∙ and-true (nib b && nib c && nib d))
+    (only_bits (nib b && nib c && nib d) (Some (Encoded.Half (a * 4096 + b * 256 + c * 16 + d))) true (λ _. refl) ∙ and-true (nib b && nib c && nib d))
 
 -- two operands, or one beside a nibble that is in range
 two_bits : {a b : ℕ} {k : Kind} (c d : ℕ) → Code a b k → has_bits (nibs_of a b c d) ≡ (nib c && nib d)

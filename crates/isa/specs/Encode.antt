@@ -1,7 +1,7 @@
 -- The bits of an instruction: "The encoder answers 'no instruction', with no bits, exactly if a field is out of its range" (document 01).
 -- Sources: the columns of the guide's instruction tables; document 01, "Instructions".
 -- Assumes nothing.
-use Rattle.std.specs.Prelude.{ℕ, ◌+◌, ◌*◌, ◌/◌, ◌%◌, ◌^◌, Bool, cond, ◌&&◌, ltb, leb}
+use Rattle.std.specs.Prelude.{ℕ, ◌+◌, ◌*◌, ◌/◌, ◌%◌, ◌^◌, Bool, cond, ◌&&◌, ltb, leb, None, Option, Some}
 use Rattle.word.specs.Numbers.{fits_of}
 use Rattle.word.specs.declared.HalfDisp.{HalfDisp}
 use Rattle.isa.specs.Codes.{shift_no, alu_no, cmp_no, cmp_imm_no, cond_no, cond_imm_no, imm_no, load_no, store_no, short_no, long_no}
@@ -11,37 +11,37 @@ use Rattle.isa.specs.declared.LongOp.{LongOp}
 use Rattle.isa.specs.declared.Instr.{Instr}
 use Rattle.isa.specs.declared.Encoded.{Encoded}
 
-abbrev pub only : Bool → Encoded → Encoded
-only t x = cond t x Encoded.Nothing
+abbrev pub only : Bool → Option Encoded → Option Encoded
+only t x = cond t x None
 
 -- four nibbles
-unfoldable pub nibs_of : ℕ → ℕ → ℕ → ℕ → Encoded
+unfoldable pub nibs_of : ℕ → ℕ → ℕ → ℕ → Option Encoded
 nibs_of a b c d =
-    only (ltb a 16 && ltb b 16 && ltb c 16 && ltb d 16) (Encoded.Half (a * 4096 + b * 256 + c * 16 + d))
+    only (ltb a 16 && ltb b 16 && ltb c 16 && ltb d 16) (Some (Encoded.Half (a * 4096 + b * 256 + c * 16 + d)))
 
 -- 0x3?, a register, and a signed number of four bits
-unfoldable pub nibs_signed : ℕ → ℕ → ℕ → Encoded
+unfoldable pub nibs_signed : ℕ → ℕ → ℕ → Option Encoded
 nibs_signed b c x = only (fits_of 4 x) (nibs_of 3 b c (x % 2 ^ 4))
 
 -- a register, and an immediate of eight bits round it, unsigned or signed
-unfoldable pub nibs_byte : ℕ → ℕ → ℕ → Encoded
+unfoldable pub nibs_byte : ℕ → ℕ → ℕ → Option Encoded
 nibs_byte a c n = only (ltb n 256) (nibs_of a (n / 16) c (n % 16))
 
-unfoldable pub nibs_signed_byte : ℕ → ℕ → ℕ → Encoded
+unfoldable pub nibs_signed_byte : ℕ → ℕ → ℕ → Option Encoded
 nibs_signed_byte a c x = only (fits_of 8 x) (nibs_byte a c (x % 2 ^ 8))
 
-unfoldable pub encode_imm : ImmOp → ℕ → ℕ → Encoded
+unfoldable pub encode_imm : ImmOp → ℕ → ℕ → Option Encoded
 encode_imm ImmOp.And c x = nibs_byte (imm_no ImmOp.And) c x
 encode_imm ImmOp.Add c x = nibs_signed_byte (imm_no ImmOp.Add) c x
 encode_imm ImmOp.Mov c x = nibs_signed_byte (imm_no ImmOp.Mov) c x
 
-unfoldable pub encode_short : ShortOp → HalfDisp → Encoded
-encode_short op d = only (fits_of 10 d.0) (Encoded.Half (short_no op * 1024 + d.0 % 2 ^ 10))
+unfoldable pub encode_short : ShortOp → HalfDisp → Option Encoded
+encode_short op d = only (fits_of 10 d.0) (Some (Encoded.Half (short_no op * 1024 + d.0 % 2 ^ 10)))
 
-unfoldable pub encode_long : LongOp → HalfDisp → Encoded
-encode_long op d = only (fits_of 26 d.0) (Encoded.Pair (long_no op * 1024 + d.0 % 2 ^ 26 / 65536) (d.0 % 2 ^ 26 % 65536))
+unfoldable pub encode_long : LongOp → HalfDisp → Option Encoded
+encode_long op d = only (fits_of 26 d.0) (Some (Encoded.Pair (long_no op * 1024 + d.0 % 2 ^ 26 / 65536) (d.0 % 2 ^ 26 % 65536)))
 
-unfoldable pub encode_of : Instr → Encoded
+unfoldable pub encode_of : Instr → Option Encoded
 encode_of (Instr.Alu op c d) = nibs_of 2 (alu_no op) c d
 encode_of (Instr.ShiftImm op c d) = nibs_of 0 (shift_no op) c d
 encode_of (Instr.Cmp op c d) = nibs_of 3 (cmp_no op) c d

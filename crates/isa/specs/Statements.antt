@@ -1,6 +1,6 @@
 -- Words that the theorems of this crate are stated in (proofs/Theorems.antt has the statements).
 -- Assumes nothing.
-use Rattle.std.specs.Prelude.{ℕ, ◌/◌, ◌%◌, ◌≡◌, Bool, true, false, cond, ◌&&◌, ltb, leb, eqb}
+use Rattle.std.specs.Prelude.{ℕ, ◌/◌, ◌%◌, ◌≡◌, Bool, true, false, cond, ◌&&◌, ltb, leb, eqb, None, Option, Some}
 use Rattle.isa.specs.Decode.{decode_of}
 use Rattle.isa.specs.Encode.{encode_of}
 use Rattle.isa.specs.declared.Instr.{Instr}
@@ -8,28 +8,28 @@ use Rattle.isa.specs.declared.Decoded.{Decoded}
 use Rattle.isa.specs.declared.Encoded.{Encoded}
 
 -- the encoder has bits
-abbrev pub has_bits : Encoded → Bool
-has_bits (Encoded.Half h) = true
-has_bits (Encoded.Pair h s) = true
-has_bits Encoded.Nothing = false
+abbrev pub has_bits : Option Encoded → Bool
+has_bits (Some (Encoded.Half h)) = true
+has_bits (Some (Encoded.Pair h s)) = true
+has_bits None = false
 
 -- these bits decode to i, whatever half follows a short one
-abbrev pub DecodesTo : Encoded → Instr → Type 0
-DecodesTo (Encoded.Half h) i = (s : ℕ) → decode_of h s ≡ Decoded.Short i
-DecodesTo (Encoded.Pair h s) i = decode_of h s ≡ Decoded.Long i
-DecodesTo Encoded.Nothing i = Unit {0}
+abbrev pub DecodesTo : Option Encoded → Instr → Type 0
+DecodesTo (Some (Encoded.Half h)) i = (s : ℕ) → decode_of h s ≡ Some (Decoded.Short i)
+DecodesTo (Some (Encoded.Pair h s)) i = decode_of h s ≡ Some (Decoded.Long i)
+DecodesTo None i = Unit {0}
 
 -- what h and s decode to has just these bits
-abbrev pub EncodesTo : Decoded → ℕ → ℕ → Type 0
-EncodesTo (Decoded.Short i) h s = encode_of i ≡ Encoded.Half h
-EncodesTo (Decoded.Long i) h s = encode_of i ≡ Encoded.Pair h s
-EncodesTo Decoded.Nothing h s = Unit {0}
+abbrev pub EncodesTo : Option Decoded → ℕ → ℕ → Type 0
+EncodesTo (Some (Decoded.Short i)) h s = encode_of i ≡ Some (Encoded.Half h)
+EncodesTo (Some (Decoded.Long i)) h s = encode_of i ≡ Some (Encoded.Pair h s)
+EncodesTo None h s = Unit {0}
 
 -- the size in bytes, 0 where there is no instruction
-abbrev pub size_of : Decoded → ℕ
-size_of (Decoded.Short i) = 2
-size_of (Decoded.Long i) = 4
-size_of Decoded.Nothing = 0
+abbrev pub size_of : Option Decoded → ℕ
+size_of (Some (Decoded.Short i)) = 2
+size_of (Some (Decoded.Long i)) = 4
+size_of None = 0
 
 -- Every first half that document 01 and the guide name, by its first byte n: the rest of the half, its low byte, or its low nibble for mfsfr,
 -- is below a bound. 0 says that no half with this first byte is named: 0x00 to 0x07, udi0 to udi3, 0x11, 0x14 to 0x1b, 0x1f, 0xfc to 0xff.

@@ -28,18 +28,15 @@ fn far(first: u16, second: u16) -> HalfDisp
     HalfDisp(word::extend(26, first as u32 * 65536 + second as u32))
 }
 
-fn short_if(t: bool, i: Instr) -> Decoded
+fn short_if(t: bool, i: Instr) -> Option<Decoded>
     ensures { result ≡ short_if t i }
 {
-    if t {
-        Decoded::Short(i)
-    } else {
-        Decoded::Nothing
-    }
+    t.then_some(Decoded::Short(i))
 }
 
 // The operands of a kind, from the bits that its first byte leaves.
-pub fn operands(k: Kind, first: u16, second: u16) -> Decoded
+#[tactic(auto, unfolding(crate::specs::Decode::operands_of))]
+pub fn operands(k: Kind, first: u16, second: u16) -> Option<Decoded>
     ensures { result ≡ operands_of k first second }
 {
     let h = first as u32;
@@ -47,29 +44,30 @@ pub fn operands(k: Kind, first: u16, second: u16) -> Decoded
     let c = h / 16 % 16;
     let d = h % 16;
     match k {
-        Kind::Nothing => Decoded::Nothing,
-        Kind::Alu(op) => Decoded::Short(Instr::Alu(op, c, d)),
-        Kind::ShiftImm(op) => Decoded::Short(Instr::ShiftImm(op, c, d)),
-        Kind::Cmp(op) => Decoded::Short(Instr::Cmp(op, c, d)),
-        Kind::CmpImm(op) => Decoded::Short(Instr::CmpImm(op, c, word::extend(4, d))),
-        Kind::Cond(op, t) => Decoded::Short(Instr::Cond(op, t, c, d)),
-        Kind::CondImm(t) => Decoded::Short(Instr::CondImm(t, c, word::extend(4, d))),
-        Kind::Ldrpc => Decoded::Short(Instr::Ldrpc(c, b * 16 + d)),
-        Kind::Imm(op) => Decoded::Short(Instr::Imm(op, c, imm_value(op, b * 16 + d))),
-        Kind::Load(w) => Decoded::Short(Instr::Load(w, c, b, d)),
-        Kind::Store(w) => Decoded::Short(Instr::Store(w, c, b, d)),
+        Kind::Nothing => None,
+        Kind::Alu(op) => Some(Decoded::Short(Instr::Alu(op, c, d))),
+        Kind::ShiftImm(op) => Some(Decoded::Short(Instr::ShiftImm(op, c, d))),
+        Kind::Cmp(op) => Some(Decoded::Short(Instr::Cmp(op, c, d))),
+        Kind::CmpImm(op) => Some(Decoded::Short(Instr::CmpImm(op, c, word::extend(4, d)))),
+        Kind::Cond(op, t) => Some(Decoded::Short(Instr::Cond(op, t, c, d))),
+        Kind::CondImm(t) => Some(Decoded::Short(Instr::CondImm(t, c, word::extend(4, d)))),
+        Kind::Ldrpc => Some(Decoded::Short(Instr::Ldrpc(c, b * 16 + d))),
+        Kind::Imm(op) => Some(Decoded::Short(Instr::Imm(op, c, imm_value(op, b * 16 + d)))),
+        Kind::Load(w) => Some(Decoded::Short(Instr::Load(w, c, b, d))),
+        Kind::Store(w) => Some(Decoded::Short(Instr::Store(w, c, b, d))),
         Kind::Mfsfr => short_if(d <= 10, Instr::Mfsfr(c, d)),
         Kind::Mtsfr => short_if(c <= 10, Instr::Mtsfr(c, d)),
         Kind::Jr => short_if(c == 0, Instr::Jr(d)),
         Kind::Jrl => short_if(c == 0, Instr::Jrl(d)),
-        Kind::Jsfr => short_if(word::both(c == 0, d <= 3), Instr::Jsfr(d)),
+        Kind::Jsfr => short_if(c == 0 && d <= 3, Instr::Jsfr(d)),
         Kind::Swint => short_if(c == 0, Instr::Swint(d)),
-        Kind::ShortJump(op) => Decoded::Short(Instr::ShortJump(op, near(first))),
-        Kind::LongJump(op) => Decoded::Long(Instr::LongJump(op, far(first, second))),
+        Kind::ShortJump(op) => Some(Decoded::Short(Instr::ShortJump(op, near(first)))),
+        Kind::LongJump(op) => Some(Decoded::Long(Instr::LongJump(op, far(first, second)))),
     }
 }
 
-pub fn decode(first: u16, second: u16) -> Decoded
+#[tactic(auto, unfolding(crate::specs::Decode::decode_of))]
+pub fn decode(first: u16, second: u16) -> Option<Decoded>
     ensures { result ≡ decode_of first second }
 {
     operands(kind_of((first / 256) as u8), first, second)

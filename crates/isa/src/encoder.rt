@@ -1,81 +1,21 @@
 // The bits of an instruction.
-ghost use Rattle.std.specs.Prelude.{◌≡◌, ◌<◌};
-ghost use Rattle.isa.specs.Codes.{shift_no, alu_no, cmp_no, cmp_imm_no, cond_no, cond_imm_no, load_no, store_no, short_no, long_no};
+ghost use Rattle.std.specs.Prelude.{◌≡◌};
+ghost use Rattle.isa.specs.Codes.{cond_no, cond_imm_no, load_no, store_no};
 ghost use Rattle.isa.specs.Encode.{only, nibs_of, nibs_signed, nibs_byte, nibs_signed_byte, encode_imm, encode_short, encode_long, encode_of};
 
-use crate::{AluOp, CmpImmOp, CmpOp, CondOp, Encoded, ImmOp, Instr, LongOp, ShiftOp, ShortOp};
+use crate::{CondOp, Encoded, ImmOp, Instr, LongOp, ShortOp};
 use word::{HalfDisp, Width};
-
-fn shift_no(op: ShiftOp) -> u32
-    ensures { result ≡ shift_no op }
-{
-    match op {
-        ShiftOp::Lsl => 12,
-        ShiftOp::Lsr => 13,
-        ShiftOp::Asr => 14,
-        ShiftOp::Mult => 15,
-    }
-}
-
-fn alu_no(op: AluOp) -> u32
-    ensures { result ≡ alu_no op }
-{
-    match op {
-        AluOp::Sub => 0,
-        AluOp::Add => 1,
-        AluOp::Subc => 2,
-        AluOp::Addc => 3,
-        AluOp::Mov => 4,
-        AluOp::And => 5,
-        AluOp::Or => 6,
-        AluOp::Xor => 7,
-        AluOp::Sxb => 8,
-        AluOp::Xhw => 9,
-        AluOp::Sxh => 10,
-        AluOp::Zxh => 11,
-        AluOp::Lsl => 12,
-        AluOp::Lsr => 13,
-        AluOp::Asr => 14,
-        AluOp::Mult => 15,
-    }
-}
-
-fn cmp_no(op: CmpOp) -> u32
-    ensures { result ≡ cmp_no op }
-{
-    match op {
-        CmpOp::Eq => 1,
-        CmpOp::Hs => 2,
-        CmpOp::Ls => 3,
-        CmpOp::Lt => 4,
-        CmpOp::Gt => 5,
-    }
-}
-
-fn cmp_imm_no(op: CmpImmOp) -> u32
-    ensures { result ≡ cmp_imm_no op }
-{
-    match op {
-        CmpImmOp::Eq => 0,
-        CmpImmOp::Lt => 6,
-        CmpImmOp::Gt => 7,
-    }
-}
 
 fn cond_no(op: CondOp, t: bool) -> u32
     ensures { result ≡ cond_no op t }
 {
-    match op {
-        CondOp::Mov => if t { 12 } else { 8 },
-        CondOp::Sub => if t { 13 } else { 9 },
-        CondOp::Add => if t { 15 } else { 11 },
-    }
+    op as u32 + u32::from(t) * 4
 }
 
 fn cond_imm_no(t: bool) -> u32
     ensures { result ≡ cond_imm_no t }
 {
-    if t { 14 } else { 10 }
+    10 + u32::from(t) * 4
 }
 
 fn load_no(w: Width) -> u32
@@ -91,114 +31,85 @@ fn load_no(w: Width) -> u32
 fn store_no(w: Width) -> u32
     ensures { result ≡ store_no w }
 {
-    match w {
-        Width::Word => 9,
-        Width::Half => 11,
-        Width::Byte => 13,
-    }
+    load_no(w) + 1
 }
 
-fn short_no(op: ShortOp) -> u32
-    ensures { (result ≡ short_no op) × (result < 64) }
-{
-    match op {
-        ShortOp::Sjf => 57,
-        ShortOp::Sjt => 59,
-        ShortOp::Sj => 61,
-    }
-}
-
-fn long_no(op: LongOp) -> u32
-    ensures { (result ≡ long_no op) × (result < 64) }
-{
-    match op {
-        LongOp::Jf => 56,
-        LongOp::Jt => 58,
-        LongOp::J => 60,
-        LongOp::Jl => 62,
-    }
-}
-
-fn when(t: bool, e: Encoded) -> Encoded
+fn when(t: bool, e: Option<Encoded>) -> Option<Encoded>
     ensures { result ≡ only t e }
 {
-    if t { e } else { Encoded::Nothing }
+    if t { e } else { None }
 }
 
-fn nibs(a: u32, b: u32, c: u32, d: u32) -> Encoded
+#[tactic(auto, unfolding(crate::specs::Encode::nibs_of))]
+fn nibs(a: u32, b: u32, c: u32, d: u32) -> Option<Encoded>
     ensures { result ≡ nibs_of a b c d }
 {
-    if 16 <= a {
-        return Encoded::Nothing;
+    if a < 16 && b < 16 && c < 16 && d < 16 {
+        Some(Encoded::Half((a * 4096 + b * 256 + c * 16 + d) as u16))
+    } else {
+        None
     }
-    if 16 <= b {
-        return Encoded::Nothing;
-    }
-    if 16 <= c {
-        return Encoded::Nothing;
-    }
-    if 16 <= d {
-        return Encoded::Nothing;
-    }
-    Encoded::Half((a * 4096 + b * 256 + c * 16 + d) as u16)
 }
 
-fn nibs_signed(b: u32, c: u32, x: u32) -> Encoded
+#[tactic(auto, unfolding(crate::specs::Encode::nibs_signed))]
+fn nibs_signed(b: u32, c: u32, x: u32) -> Option<Encoded>
     ensures { result ≡ nibs_signed b c x }
 {
     when(word::fits(4, x), nibs(3, b, c, x % 16))
 }
 
-fn nibs_byte(a: u32, c: u32, n: u32) -> Encoded
+#[tactic(auto, unfolding(crate::specs::Encode::nibs_byte))]
+fn nibs_byte(a: u32, c: u32, n: u32) -> Option<Encoded>
     ensures { result ≡ nibs_byte a c n }
 {
     when(n < 256, nibs(a, n / 16, c, n % 16))
 }
 
-fn nibs_signed_byte(a: u32, c: u32, x: u32) -> Encoded
+#[tactic(auto, unfolding(crate::specs::Encode::nibs_signed_byte))]
+fn nibs_signed_byte(a: u32, c: u32, x: u32) -> Option<Encoded>
     ensures { result ≡ nibs_signed_byte a c x }
 {
     when(word::fits(8, x), nibs_byte(a, c, x % 256))
 }
 
-fn encode_imm(op: ImmOp, c: u32, x: u32) -> Encoded
+#[tactic(auto, unfolding(crate::specs::Encode::encode_imm))]
+fn encode_imm(op: ImmOp, c: u32, x: u32) -> Option<Encoded>
     ensures { result ≡ encode_imm op c x }
 {
     match op {
-        ImmOp::And => nibs_byte(5, c, x),
-        ImmOp::Add => nibs_signed_byte(6, c, x),
-        ImmOp::Mov => nibs_signed_byte(7, c, x),
+        ImmOp::And => nibs_byte(op as u32, c, x),
+        ImmOp::Add | ImmOp::Mov => nibs_signed_byte(op as u32, c, x),
     }
 }
 
-fn encode_short(op: ShortOp, d: HalfDisp) -> Encoded
+#[tactic(auto, unfolding(crate::specs::Encode::encode_short))]
+fn encode_short(op: ShortOp, d: HalfDisp) -> Option<Encoded>
     ensures { result ≡ encode_short op d }
 {
     let x = d.0;
-    let bits = short_no(op) * 1024 + x % 1024;
-    when(word::fits(10, x), Encoded::Half(bits as u16))
+    let bits = op as u32 * 1024 + x % 1024;
+    word::fits(10, x).then_some(Encoded::Half(bits as u16))
 }
 
-fn encode_long(op: LongOp, d: HalfDisp) -> Encoded
+#[tactic(auto, unfolding(crate::specs::Encode::encode_long))]
+fn encode_long(op: LongOp, d: HalfDisp) -> Option<Encoded>
     ensures { result ≡ encode_long op d }
 {
     let x = d.0;
     let bits = x % 67108864;
-    let first = long_no(op) * 1024 + bits / 65536;
-    when(
-        word::fits(26, x),
-        Encoded::Pair(first as u16, (bits % 65536) as u16),
-    )
+    let first = op as u32 * 1024 + bits / 65536;
+    word::fits(26, x).then_some(Encoded::Pair(first as u16, (bits % 65536) as u16))
 }
 
-pub fn encode(i: Instr) -> Encoded
+#[tactic(auto, unfolding(crate::specs::Encode::encode_of))]
+pub fn encode(i: Instr) -> Option<Encoded>
     ensures { result ≡ encode_of i }
 {
     match i {
-        Instr::Alu(op, c, d) => nibs(2, alu_no(op), c, d),
-        Instr::ShiftImm(op, c, d) => nibs(0, shift_no(op), c, d),
-        Instr::Cmp(op, c, d) => nibs(3, cmp_no(op), c, d),
-        Instr::CmpImm(op, c, x) => nibs_signed(cmp_imm_no(op), c, x),
+        Instr::Alu(op, c, d) => nibs(2, op as u32, c, d),
+        Instr::ShiftImm(op, c, d) => nibs(0, op as u32, c, d),
+        Instr::Cmp(op, c, d) => nibs(3, op as u32, c, d),
+        Instr::CmpImm(op, c, x) => nibs_signed(op as u32, c, x),
         Instr::Cond(op, t, c, d) => nibs(3, cond_no(op, t), c, d),
         Instr::CondImm(t, c, x) => nibs_signed(cond_imm_no(t), c, x),
         Instr::Ldrpc(c, n) => nibs_byte(4, c, n),

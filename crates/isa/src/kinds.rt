@@ -1,6 +1,6 @@
 // The kind that a first byte says.
-ghost use Rattle.std.specs.Prelude.{◌≡◌, cond, ◌-◌, ltb};
-ghost use Rattle.isa.specs.Codes.{kind_in, shift_row, system_row, alu_row, test_row, fixed_row, jump_row, kind_of};
+ghost use Rattle.std.specs.Prelude.{◌≡◌, ◌<◌, cond, ◌-◌, ◌/◌, ◌%◌, ltb};
+ghost use Rattle.isa.specs.Codes.{kind_in, shift_row, system_row, alu_row, test_row, fixed_row, jump_row, low_kind, kind_of};
 
 use crate::{AluOp, CmpImmOp, CmpOp, CondOp, ImmOp, Kind, LongOp, ShiftOp, ShortOp};
 use word::Width;
@@ -128,25 +128,30 @@ fn jump_kind(k: u8) -> Kind
     }
 }
 
+// Rows 0x0? to 0x3?.
+fn low_kind(byte: u8) -> Kind
+    requires { byte < 64 }
+    ensures { result ≡ low_kind (byte / 16) (byte % 16) }
+{
+    if 32 <= byte {
+        upper_kind(byte - 32)
+    } else if 16 <= byte {
+        system_kind(byte - 16)
+    } else {
+        shift_kind(byte)
+    }
+}
+
 // Tests lead to a row: two jump tables in a row cost the compiler more instructions.
+#[tactic(auto, unfolding(crate::specs::Codes::kind_of))]
 pub fn kind_of(byte: u8) -> Kind
     ensures { result ≡ kind_of byte }
 {
     if byte < 64 {
-        if byte < 32 {
-            if byte < 16 {
-                shift_kind(byte % 16)
-            } else {
-                system_kind(byte % 16)
-            }
-        } else {
-            upper_kind(byte - 32)
-        }
+        low_kind(byte)
+    } else if byte < 224 {
+        fixed_kind(byte / 16 - 4)
     } else {
-        if byte < 224 {
-            fixed_kind(byte / 16 - 4)
-        } else {
-            jump_kind(byte / 4 - 56)
-        }
+        jump_kind(byte / 4 - 56)
     }
 }

@@ -10,78 +10,83 @@ pub use encoder::encode;
 pub use kinds::kind_of;
 use word::{HalfDisp, Width};
 
+// The number of an operation is its code: the low nibble of the first byte, of ImmOp the high nibble, of a jump the first six bits.
+
 // 0x2?: sub and add set CY; the shifts are by a register.
 #[derive(Clone, Copy)]
 pub enum AluOp {
-    Sub,
-    Add,
-    Subc,
-    Addc,
-    Mov,
-    And,
-    Or,
-    Xor,
-    Sxb,
-    Xhw,
-    Sxh,
-    Zxh,
-    Lsl,
-    Lsr,
-    Asr,
-    Mult,
+    Sub = 0x0,
+    Add = 0x1,
+    Subc = 0x2,
+    Addc = 0x3,
+    Mov = 0x4,
+    And = 0x5,
+    Or = 0x6,
+    Xor = 0x7,
+    Sxb = 0x8,
+    Xhw = 0x9,
+    Sxh = 0xa,
+    Zxh = 0xb,
+    Lsl = 0xc,
+    Lsr = 0xd,
+    Asr = 0xe,
+    Mult = 0xf,
 }
 
+// 0x0?: by an immediate.
 #[derive(Clone, Copy)]
 pub enum ShiftOp {
-    Lsl,
-    Lsr,
-    Asr,
-    Mult,
+    Lsl = 0xc,
+    Lsr = 0xd,
+    Asr = 0xe,
+    Mult = 0xf,
 }
 
+// 0x3?, as the next two.
 #[derive(Clone, Copy)]
 pub enum CmpOp {
-    Eq,
-    Hs,
-    Ls,
-    Lt,
-    Gt,
+    Eq = 0x1,
+    Hs = 0x2,
+    Ls = 0x3,
+    Lt = 0x4,
+    Gt = 0x5,
 }
 
 #[derive(Clone, Copy)]
 pub enum CmpImmOp {
-    Eq,
-    Lt,
-    Gt,
+    Eq = 0x0,
+    Lt = 0x6,
+    Gt = 0x7,
 }
 
+// The code is that of the form that wants TF 0; bit 2 is the value of TF that is wanted.
 #[derive(Clone, Copy)]
 pub enum CondOp {
-    Mov,
-    Sub,
-    Add,
+    Mov = 0x8,
+    Sub = 0x9,
+    Add = 0xb,
 }
 
 #[derive(Clone, Copy)]
 pub enum ImmOp {
-    And,
-    Add,
-    Mov,
+    And = 0x5,
+    Add = 0x6,
+    Mov = 0x7,
 }
 
 #[derive(Clone, Copy)]
 pub enum ShortOp {
-    Sjf,
-    Sjt,
-    Sj,
+    Sjf = 0x39,
+    Sjt = 0x3b,
+    Sj = 0x3d,
 }
 
 #[derive(Clone, Copy)]
 pub enum LongOp {
-    Jf,
-    Jt,
-    J,
-    Jl,
+    Jf = 0x38,
+    Jt = 0x3a,
+    J = 0x3c,
+    Jl = 0x3e,
 }
 
 // An instruction with its operands, in the order of the guide's syntax. Signed operands are modulo 2^32.
@@ -149,12 +154,10 @@ pub enum Kind {
 pub enum Decoded {
     Short(Instr),
     Long(Instr),
-    Nothing,
 }
 
 #[derive(Clone, Copy)]
 pub enum Encoded {
     Half(u16),
     Pair(u16, u16),
-    Nothing,
 }

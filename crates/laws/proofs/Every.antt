@@ -1,5 +1,6 @@
 -- What every step keeps, every run keeps.
 -- Assumes nothing.
+use Rattle.std.specs.Prelude.{Err, Ok, Result}
 use Prim.Native.Nat.{ℕ, zero, suc, ◌+◌}
 use mathlib.Core.List.{List}
 use lib.ListN.{get_or}
@@ -7,7 +8,7 @@ use Rattle.marks.specs.Memory.{Marks}
 use Rattle.machine.specs.Step.{Stepped, stopped, completed, step_of, after}
 use Rattle.machine.specs.Run.{Final, go_on, steps_of, judge, judged, run_of}
 use Rattle.machine.specs.declared.State.{State}
-use Rattle.machine.specs.declared.Judged.{Judged}
+use Rattle.instruction.specs.declared.Reply.{Reply}
 
 -- P holds of the state after a step from s, if that is completed
 abbrev pub After : (State → Type 0) → State → Stepped → Type 0
@@ -27,9 +28,9 @@ module _ (P : State → Type 0) (step : (t : ℕ) (s : State) (m : List ℕ) (k 
   steps_every (suc b) n t s m k p =
       goes_on (steps_of b (n + 1) t) n s m k (step_of (get_or t n 0) s m k) p (step (get_or t n 0) s m k p) (λ u l j q. steps_every b (n + 1) t u l j q)
 
-  judged_every : (j : Judged) (b : ℕ) (t : List ℕ) (s : State) (m : List ℕ) (k : Marks) → P s → P (judged j b t s m k).ended.state
-  judged_every (Judged.Refused r) b t s m k p = p
-  judged_every Judged.Good b t s m k p = steps_every b 0 t s m k p
+  judged_every : (j : Result Unit Reply) (b : ℕ) (t : List ℕ) (s : State) (m : List ℕ) (k : Marks) → P s → P (judged j b t s m k).ended.state
+  judged_every (Err r) b t s m k p = p
+  judged_every (Ok _) b t s m k p = steps_every b 0 t s m k p
 
   pub run_every : (b : ℕ) (t : List ℕ) (s : State) (m : List ℕ) (k : Marks) → P s → P (run_of b t s m k).ended.state
   unfolding run_of

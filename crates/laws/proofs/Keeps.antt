@@ -1,5 +1,6 @@
 -- Every step keeps a state in form; the program counter never becomes odd.
 -- Assumes nothing.
+use Rattle.std.specs.Prelude.{Err, None, Ok, Option, Result}
 use Prim.Native.Nat.{ℕ, ◌+◌, ◌-◌, ◌/◌, ◌%◌, ◌^◌, ◌<◌, ◌≤◌}
 use mathlib.Core.Path.{◌≡◌, refl, ap, ◌∙◌}
 use mathlib.Core.Bool.{Bool, true, false, cond, not, ◌&&◌, ◌||◌}
@@ -32,7 +33,6 @@ use Rattle.marks.specs.declared.Taint.{Taint}
 use Rattle.instruction.specs.Fetch.{fetch_of}
 use Rattle.instruction.specs.Act.{Val, reach_of, outside, loaded_from, loaded_mark, act_of}
 use Rattle.instruction.specs.declared.Halt.{Halt}
-use Rattle.instruction.specs.declared.Fetched.{Fetched}
 use Rattle.instruction.specs.declared.Reach.{Reach}
 use Rattle.instruction.specs.declared.Act.{Act}
 use Rattle.machine.specs.State.{value_at}
@@ -40,7 +40,6 @@ use Rattle.machine.specs.Step.{Stepped, stopped, completed, chosen, entry_by, en
 use Rattle.machine.specs.Run.{run_of}
 use Rattle.machine.specs.declared.State.{State}
 use Rattle.machine.specs.declared.Event.{Event}
-use Rattle.machine.specs.declared.Data.{Data}
 use Rattle.laws.specs.Form.{Form}
 use Rattle.laws.proofs.Every.{After, run_every}
 
@@ -278,14 +277,14 @@ enters_kept : (e : Entry) (f : Flags) (c : Control) → Form c → Form (entry_d
 unfolding entry_done
 enters_kept e f c g = passes _ (entries e c g) (on c.psw 4) (entry_cost e)
 
-halt_keeps : (h : Halt) (a : Data) (f : Flags) (c : Control) (m : List ℕ) (k : Marks) → Form c → Kept (halt_step h a f c m k)
+halt_keeps : (h : Halt) (a : Option ByteAddr) (f : Flags) (c : Control) (m : List ℕ) (k : Marks) → Form c → Kept (halt_step h a f c m k)
 halt_keeps Halt.FetchOutside a f c m k g = enters_kept Entry.FetchError f c g
 halt_keeps Halt.FetchMarked a f c m k g = tt
 halt_keeps Halt.NoInstruction a f c m k g = tt
 halt_keeps Halt.MarkedOperand a f c m k g = tt
 halt_keeps Halt.DataOutside a f c m k g = enters_kept Entry.DataError f (onward 2 c) (onwards c g 2 refl)
 
-acted : (t u : Bool) (p q : Halt) (e : Effect) (n : Taint) (r : Reach) (a : Data) (x : Val) (f : Flags) (c : Control) (m : List ℕ) (k : Marks) → Form c → Form e.control
+acted : (t u : Bool) (p q : Halt) (e : Effect) (n : Taint) (r : Reach) (a : Option ByteAddr) (x : Val) (f : Flags) (c : Control) (m : List ℕ) (k : Marks) → Form c → Form e.control
     → Kept (act_step (cond t (Act.Halted p) (cond u (Act.Halted q) (Act.Does e n r))) a x f c m k)
 unfolding done_of
 acted true u p q e n r a x f c m k i g = halt_keeps p a f c m k i
@@ -294,7 +293,7 @@ acted false false p q e n r a x f c m k i g =
     passes (entered (entry_by r e.control) e.control) (entries (entry_by r e.control) e.control g) (on c.psw 4 && not e.wrote)
     (e.cost + entry_cost (entry_by r e.control))
 
-acts : (i : Instr) (a : Data) (x y : Val) (f : Flags) (c : Control) (m : List ℕ) (k : Marks) → Form c → Kept (act_step (act_of i x y f c m k) a x f c m k)
+acts : (i : Instr) (a : Option ByteAddr) (x y : Val) (f : Flags) (c : Control) (m : List ℕ) (k : Marks) → Form c → Kept (act_step (act_of i x y f c m k) a x f c m k)
 unfolding act_of
 acts i a x y f c m k g =
     let r : Reach = reach_of i y.value c in
@@ -311,10 +310,10 @@ acts i a x y f c m k g =
     g
     (executes c g i x.value y.value (loaded_from r m))
 
-fetches : (x : Fetched) (s : State) (m : List ℕ) (k : Marks) → Form s.control → Kept (fetch_step x s m k)
+fetches : (x : Result Instr Halt) (s : State) (m : List ℕ) (k : Marks) → Form s.control → Kept (fetch_step x s m k)
 unfolding instr_step
-fetches (Fetched.Halted h) s m k f = halt_keeps h Data.Nowhere s.flags s.control m k f
-fetches (Fetched.Run i) s m k f = acts i _ (value_at s (sources_of i).first) (value_at s (sources_of i).second) s.flags s.control m k f
+fetches (Err h) s m k f = halt_keeps h None s.flags s.control m k f
+fetches (Ok i) s m k f = acts i _ (value_at s (sources_of i).first) (value_at s (sources_of i).second) s.flags s.control m k f
 
 event_keeps : (v : Event) (s : State) (m : List ℕ) (k : Marks) → Form s.control → Kept (event_step v s m k)
 event_keeps (Event.Enter e) s m k f = enters_kept e s.flags s.control f

@@ -1,5 +1,6 @@
 -- A step stops with 12, 13 or 14 and nothing else; so a run gives one of the replies listed in specs/Replies.antt.
 -- Assumes nothing.
+use Rattle.std.specs.Prelude.{Err, None, Ok, Option, Result}
 use Prim.Native.Nat.{ℕ, zero, suc, ◌+◌}
 use mathlib.Core.Bool.{Bool, true, false, cond}
 use mathlib.Core.List.{List}
@@ -15,36 +16,36 @@ use Rattle.instruction.specs.Reply.{number_of}
 use Rattle.instruction.specs.Fetch.{fetch_of}
 use Rattle.instruction.specs.Act.{Val, reach_of, act_of}
 use Rattle.instruction.specs.declared.Halt.{Halt}
-use Rattle.instruction.specs.declared.Fetched.{Fetched}
 use Rattle.instruction.specs.declared.Act.{Act}
 use Rattle.machine.specs.State.{value_at, out_of_form}
 use Rattle.machine.specs.Step.{Stepped, stopped, completed, chosen, data_of, halt_step, act_step, instr_step, fetch_step, event_step, step_of, after}
 use Rattle.machine.specs.Run.{Final, bad_length, judge, go_on, steps_of, judged, run_of}
 use Rattle.machine.specs.declared.State.{State}
 use Rattle.machine.specs.declared.Event.{Event}
-use Rattle.machine.specs.declared.Data.{Data}
-use Rattle.machine.specs.declared.Judged.{Judged}
 use Rattle.laws.specs.Replies.{Stops, fetch_marked, no_instruction, marked_operand, Replies, refused, used_up, stops}
+use Rattle.word.specs.declared.ByteAddr.{ByteAddr}
+use Rattle.instruction.specs.declared.Reply.{Reply}
+use Rattle.isa.specs.declared.Instr.{Instr}
 
 abbrev pub StepStops : Stepped → Type 0
 StepStops (stopped r) = Stops (number_of r)
 StepStops (completed d m k x) = Unit {0}
 
-halt_stops : (h : Halt) (a : Data) (f : Flags) (c : Control) (m : List ℕ) (k : Marks) → StepStops (halt_step h a f c m k)
+halt_stops : (h : Halt) (a : Option ByteAddr) (f : Flags) (c : Control) (m : List ℕ) (k : Marks) → StepStops (halt_step h a f c m k)
 halt_stops Halt.FetchOutside a f c m k = tt
 halt_stops Halt.FetchMarked a f c m k = fetch_marked
 halt_stops Halt.NoInstruction a f c m k = no_instruction
 halt_stops Halt.MarkedOperand a f c m k = marked_operand
 halt_stops Halt.DataOutside a f c m k = tt
 
-act_stops : (q : Act) (a : Data) (x : Val) (f : Flags) (c : Control) (m : List ℕ) (k : Marks) → StepStops (act_step q a x f c m k)
+act_stops : (q : Act) (a : Option ByteAddr) (x : Val) (f : Flags) (c : Control) (m : List ℕ) (k : Marks) → StepStops (act_step q a x f c m k)
 act_stops (Act.Halted h) a x f c m k = halt_stops h a f c m k
 act_stops (Act.Does e t r) a x f c m k = tt
 
-fetched_stops : (x : Fetched) (s : State) (m : List ℕ) (k : Marks) → StepStops (fetch_step x s m k)
+fetched_stops : (x : Result Instr Halt) (s : State) (m : List ℕ) (k : Marks) → StepStops (fetch_step x s m k)
 unfolding instr_step
-fetched_stops (Fetched.Halted h) s m k = halt_stops h Data.Nowhere s.flags s.control m k
-fetched_stops (Fetched.Run i) s m k =
+fetched_stops (Err h) s m k = halt_stops h None s.flags s.control m k
+fetched_stops (Ok i) s m k =
     act_stops (act_of i (value_at s (sources_of i).first) (value_at s (sources_of i).second) s.flags s.control m k)
     (data_of (reach_of i (value_at s (sources_of i).second).value s.control))
     (value_at s (sources_of i).first)
@@ -75,11 +76,11 @@ steps_reply zero n t s m k = used_up
 steps_reply (suc b) n t s m k =
     go_replies (steps_of b (n + 1) t) n s m k (step_of (get_or t n 0) s m k) (step_stops (get_or t n 0) s m k) (λ u l j. steps_reply b (n + 1) t u l j)
 
-abbrev JudgedReplies : Judged → Type 0
-JudgedReplies (Judged.Refused r) = Replies (number_of r)
-JudgedReplies Judged.Good = Unit {0}
+abbrev JudgedReplies : Result Unit Reply → Type 0
+JudgedReplies (Err r) = Replies (number_of r)
+JudgedReplies (Ok _) = Unit {0}
 
-either : (c : Bool) (x y : Judged) → JudgedReplies x → JudgedReplies y → JudgedReplies (cond c x y)
+either : (c : Bool) (x y : Result Unit Reply) → JudgedReplies x → JudgedReplies y → JudgedReplies (cond c x y)
 either true x y p q = p
 either false x y p q = q
 
@@ -97,6 +98,6 @@ pub run_replies : (b : ℕ) (t : List ℕ) (s : State) (m : List ℕ) (k : Marks
 unfolding run_of
 run_replies b t s m k = go (judge b t s m k) (judge_replies b t s m k)
   where
-    go : (j : Judged) → JudgedReplies j → Replies (number_of (judged j b t s m k).ended.reply)
-    go (Judged.Refused r) p = p
-    go Judged.Good p = steps_reply b 0 t s m k
+    go : (j : Result Unit Reply) → JudgedReplies j → Replies (number_of (judged j b t s m k).ended.reply)
+    go (Err r) p = p
+    go (Ok _) p = steps_reply b 0 t s m k

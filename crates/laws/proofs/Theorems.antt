@@ -1,5 +1,6 @@
 -- Theorems on the machine's definitions, each with its statement; read this file alone with specs/. The proofs are in the files that it cites.
 -- Assumes nothing.
+use Rattle.std.specs.Prelude.{Err, Ok, Some}
 use Prim.Native.Nat.{ℕ, suc, ◌+◌, ◌*◌, ◌/◌, ◌%◌, ◌^◌, ◌<◌}
 use mathlib.Core.Path.{◌≡◌, sym, ap, subst, ◌∙◌}
 use mathlib.Core.Bool.{Bool, true, false, not, ◌&&◌, ◌||◌}
@@ -23,7 +24,6 @@ use Rattle.instruction.specs.Fetch.{fetch_of}
 use Rattle.instruction.specs.Act.{outside, act_of}
 use Rattle.instruction.specs.declared.Reply.{Reply}
 use Rattle.instruction.specs.declared.Halt.{Halt}
-use Rattle.instruction.specs.declared.Fetched.{Fetched}
 use Rattle.machine.specs.State.{value_at, out_of_form}
 use Rattle.machine.specs.Step.{stopped, completed, chosen, data_of, entry_done, entry_step, instr_step, step_of}
 use Rattle.machine.specs.Run.{final, go_on, steps_of, judge, run_of}
@@ -31,11 +31,9 @@ use Rattle.machine.specs.Trace.{Shown, trace_of, shown_of}
 use Rattle.trace.specs.Seen.{seen_in}
 use Rattle.machine.specs.declared.State.{State}
 use Rattle.machine.specs.declared.Event.{Event}
-use Rattle.machine.specs.declared.Judged.{Judged}
 use Rattle.machine.specs.declared.Ended.{Ended}
 use Rattle.machine.specs.declared.Done.{Done}
 use Rattle.machine.specs.declared.Line.{Line}
-use Rattle.trace.specs.declared.Seen.{Seen}
 use Rattle.laws.specs.Replies.{Stops, Replies}
 use Rattle.laws.specs.Form.{Form}
 use Rattle.laws.specs.Cut.{resume}
@@ -48,7 +46,7 @@ use Rattle.laws.proofs.Trace.{Told, told, entry_bits, return_bits, run_counted, 
 
 -- 1. A refusal changes nothing and counts 0 steps.
 pub refusal_changes_nothing : (b : ℕ) (t : List ℕ) (s : State) (m : List ℕ) (k : Marks) (r : Reply)
-    → judge b t s m k ≡ Judged.Refused r → run_of b t s m k ≡ final r 0 s m k
+    → judge b t s m k ≡ Err r → run_of b t s m k ≡ final r 0 s m k
 unfolding run_of
 refusal_changes_nothing b t s m k r e = rw e
 
@@ -106,7 +104,7 @@ a_line_for_each_step = run_counted
 -- .. and line i is the one that the step from what i steps left gives; z is any line.
 pub lines_of_the_steps : (b i : ℕ) (t : List ℕ) (s : State) (m : List ℕ) (k : Marks) (z : Shown) → i < length (trace_of b 0 t s m k)
     → seen_in (step_of (get_or t i 0) (steps_of i 0 t s m k).ended.state (steps_of i 0 t s m k).mem (steps_of i 0 t s m k).marks)
-    ≡ Seen.Step (get_or (trace_of b 0 t s m k) i z).line
+    ≡ Some (get_or (trace_of b 0 t s m k) i z).line
 lines_of_the_steps b i t s m k z h =
     let e : 0 + i ≡ i = omega arith in
     rw e at (nth_line b i 0 t s m k z h)
@@ -126,13 +124,13 @@ pub an_entry_by_its_bits : (e : Entry) (c : Control) → Bits e c (entered e c)
 an_entry_by_its_bits = entry_bits
 
 -- 9. An access outside memory is a bus error, and the step completes. On a fetch the entry is made at the instruction's own address ..
-pub fetch_outside : (t : ℕ) (s : State) (m : List ℕ) (k : Marks) → chosen t s.control ≡ Event.Instruction → fetch_of (pc_of s.control) m k ≡ Fetched.Halted Halt.FetchOutside
+pub fetch_outside : (t : ℕ) (s : State) (m : List ℕ) (k : Marks) → chosen t s.control ≡ Event.Instruction → fetch_of (pc_of s.control) m k ≡ Err Halt.FetchOutside
     → step_of t s m k ≡ entry_step Entry.FetchError s.flags s.control m k
 unfolding step_of
 fetch_outside t s m k c f = rw (c, f)
 
 -- .. and on data, if no marked operand stops it, at the next instruction; memory and marks are as before, and no register is written.
-pub data_outside : (t : ℕ) (s : State) (m : List ℕ) (k : Marks) (i : Instr) → chosen t s.control ≡ Event.Instruction → fetch_of (pc_of s.control) m k ≡ Fetched.Run i
+pub data_outside : (t : ℕ) (s : State) (m : List ℕ) (k : Marks) (i : Instr) → chosen t s.control ≡ Event.Instruction → fetch_of (pc_of s.control) m k ≡ Ok i
     → blocked i (value_at s (sources_of i).second).mark s.flags ≡ false → outside (reach_in i s) m ≡ true
     → step_of t s m k
     ≡ completed (entry_done Entry.DataError s.flags (onward 2 s.control)) m k

@@ -1,5 +1,6 @@
 -- The trace is what the steps gave.
 -- Assumes nothing.
+use Rattle.std.specs.Prelude.{Err, None, Ok, Option, Result, Some}
 use Prim.Native.Nat.{ℕ, zero, suc, ◌+◌, ◌%◌, ◌^◌, ◌≤◌, ◌<◌}
 use mathlib.Core.Path.{◌≡◌, refl, ap, ◌∙◌}
 use mathlib.Core.Bool.{Bool, true, false, cond, not}
@@ -30,7 +31,6 @@ use Rattle.instruction.specs.Fetch.{after_half, guarded, found, fetch_of}
 use Rattle.instruction.specs.Act.{Val, outside, loaded_mark, act_of}
 use Rattle.instruction.specs.Statements.{decoded_at}
 use Rattle.instruction.specs.declared.Halt.{Halt}
-use Rattle.instruction.specs.declared.Fetched.{Fetched}
 use Rattle.instruction.specs.declared.Reach.{Reach}
 use Rattle.instruction.specs.declared.Act.{Act}
 use Rattle.machine.specs.State.{value_at}
@@ -40,10 +40,8 @@ use Rattle.machine.specs.Trace.{Shown, trace_on, trace_of, shown, shown_of}
 use Rattle.trace.specs.Seen.{seen_in}
 use Rattle.machine.specs.declared.State.{State}
 use Rattle.machine.specs.declared.Event.{Event}
-use Rattle.machine.specs.declared.Judged.{Judged}
-use Rattle.machine.specs.declared.Data.{Data}
-use Rattle.trace.specs.declared.Seen.{Seen}
 use Rattle.laws.specs.Shows.{reach_in, effect_in, Shows, by_choice, by_instruction, by_fetch, by_data, Entered, Bits, Returned, back_from, ChangedAt}
+use Rattle.instruction.specs.declared.Reply.{Reply}
 
 -- ---- one step and its line
 
@@ -65,35 +63,35 @@ stored_at (Reach.Writes w a) v m = λ i h. go (inside m a (bytes_of w)) i h
 stored_at (Reach.Raises n) v m = refl
 
 -- no fetch meets data outside memory
-abbrev FetchHalts : Fetched → Type 0
-FetchHalts (Fetched.Halted Halt.FetchOutside) = Unit {0}
-FetchHalts (Fetched.Halted Halt.FetchMarked) = Unit {0}
-FetchHalts (Fetched.Halted Halt.NoInstruction) = Unit {0}
-FetchHalts (Fetched.Halted Halt.MarkedOperand) = Unit {0}
-FetchHalts (Fetched.Halted Halt.DataOutside) = ⊥
-FetchHalts (Fetched.Run i) = Unit {0}
+abbrev FetchHalts : Result Instr Halt → Type 0
+FetchHalts (Err Halt.FetchOutside) = Unit {0}
+FetchHalts (Err Halt.FetchMarked) = Unit {0}
+FetchHalts (Err Halt.NoInstruction) = Unit {0}
+FetchHalts (Err Halt.MarkedOperand) = Unit {0}
+FetchHalts (Err Halt.DataOutside) = ⊥
+FetchHalts (Ok i) = Unit {0}
 
-guarded_halts : (a : ByteAddr) (m : List ℕ) (k : Marks) (x : Fetched) → FetchHalts x → FetchHalts (guarded a m k x)
+guarded_halts : (a : ByteAddr) (m : List ℕ) (k : Marks) (x : Result Instr Halt) → FetchHalts x → FetchHalts (guarded a m k x)
 guarded_halts a m k x p = go (not (inside m a 2)) (marked_at Width.Half k a)
   where
-    go : (t u : Bool) → FetchHalts (cond t (Fetched.Halted Halt.FetchOutside) (cond u (Fetched.Halted Halt.FetchMarked) x))
+    go : (t u : Bool) → FetchHalts (cond t (Err Halt.FetchOutside) (cond u (Err Halt.FetchMarked) x))
     go true u = tt
     go false true = tt
     go false false = p
 
-found_halts : (d : Decoded) (b : ByteAddr) (m : List ℕ) (k : Marks) → FetchHalts (found d b m k)
-found_halts (Decoded.Short i) b m k = tt
-found_halts (Decoded.Long i) b m k = guarded_halts b m k (Fetched.Run i) tt
-found_halts Decoded.Nothing b m k = tt
+found_halts : (d : Option Decoded) (b : ByteAddr) (m : List ℕ) (k : Marks) → FetchHalts (found d b m k)
+found_halts (Some (Decoded.Short i)) b m k = tt
+found_halts (Some (Decoded.Long i)) b m k = guarded_halts b m k (Ok i) tt
+found_halts None b m k = tt
 
 fetch_halts : (a : ByteAddr) (m : List ℕ) (k : Marks) → FetchHalts (fetch_of a m k)
 unfolding fetch_of
 fetch_halts a m k = go (eqb (a.0 % 2) 1)
   where
-    x : Fetched
+    x : Result Instr Halt
     x = found (decoded_at m a) (after_half a) m k
 
-    go : (o : Bool) → FetchHalts (cond o (Fetched.Halted Halt.NoInstruction) (guarded a m k x))
+    go : (o : Bool) → FetchHalts (cond o (Err Halt.NoInstruction) (guarded a m k x))
     go true = tt
     go false = guarded_halts a m k x (found_halts (decoded_at m a) (after_half a) m k)
 
@@ -103,11 +101,11 @@ module _ (t : ℕ) (s : State) (m : List ℕ) (k : Marks) where
   Told (stopped r) = Unit {0}
   Told (completed d l j x) = (x.pc ≡ pc_of s.control) × Shows t s m k d x × ChangedAt x.address m l
 
-  nothing_stored : (a : Data) → ChangedAt a m m
-  nothing_stored Data.Nowhere = refl
-  nothing_stored (Data.At a) = λ i h. refl
+  nothing_stored : (a : Option ByteAddr) → ChangedAt a m m
+  nothing_stored None = refl
+  nothing_stored (Some a) = λ i h. refl
 
-  module _ (i : Instr) (c : chosen t s.control ≡ Event.Instruction) (f : fetch_of (pc_of s.control) m k ≡ Fetched.Run i) where
+  module _ (i : Instr) (c : chosen t s.control ≡ Event.Instruction) (f : fetch_of (pc_of s.control) m k ≡ Ok i) where
     acted : (b u : Bool) (n : Taint) → outside (reach_in i s) m ≡ u
         → Told (act_step (cond b (Act.Halted Halt.MarkedOperand) (cond u (Act.Halted Halt.DataOutside) (Act.Does (effect_in i s m) n (reach_in i s)))) (data_of (reach_in i s)) (value_at s (sources_of i).first) s.flags s.control m k)
     unfolding done_of line_of entry_done onward with_pc entry_cost
@@ -122,14 +120,14 @@ module _ (t : ℕ) (s : State) (m : List ℕ) (k : Marks) where
         let y : Val = value_at s (sources_of i).second in
         acted (blocked i y.mark s.flags) (outside (reach_in i s) m) (taint i x.mark y.mark (loaded_mark (reach_in i s) k) (tf s.control) s.flags) refl
 
-  fetched : (x : Fetched) → FetchHalts x → chosen t s.control ≡ Event.Instruction → fetch_of (pc_of s.control) m k ≡ x → Told (fetch_step x s m k)
+  fetched : (x : Result Instr Halt) → FetchHalts x → chosen t s.control ≡ Event.Instruction → fetch_of (pc_of s.control) m k ≡ x → Told (fetch_step x s m k)
   unfolding entry_done entry_cost
-  fetched (Fetched.Halted Halt.FetchOutside) p c f = (refl, by_fetch c f refl refl refl, refl)
-  fetched (Fetched.Halted Halt.FetchMarked) p c f = tt
-  fetched (Fetched.Halted Halt.NoInstruction) p c f = tt
-  fetched (Fetched.Halted Halt.MarkedOperand) p c f = tt
-  fetched (Fetched.Halted Halt.DataOutside) p c f = absurd p
-  fetched (Fetched.Run i) p c f = acts i c f
+  fetched (Err Halt.FetchOutside) p c f = (refl, by_fetch c f refl refl refl, refl)
+  fetched (Err Halt.FetchMarked) p c f = tt
+  fetched (Err Halt.NoInstruction) p c f = tt
+  fetched (Err Halt.MarkedOperand) p c f = tt
+  fetched (Err Halt.DataOutside) p c f = absurd p
+  fetched (Ok i) p c f = acts i c f
 
   happened : (v : Event) → chosen t s.control ≡ v → Told (event_step v s m k)
   unfolding entry_done
@@ -257,29 +255,29 @@ pub run_counted : (b : ℕ) (t : List ℕ) (s : State) (m : List ℕ) (k : Marks
 unfolding run_of shown_of
 run_counted b t s m k = go (judge b t s m k)
   where
-    go : (j : Judged) → length (shown j b t s m k) ≡ (judged j b t s m k).ended.steps
-    go (Judged.Refused r) = refl
-    go Judged.Good = omega (arith, counted b 0 t s m k)
+    go : (j : Result Unit Reply) → length (shown j b t s m k) ≡ (judged j b t s m k).ended.steps
+    go (Err r) = refl
+    go (Ok _) = omega (arith, counted b 0 t s m k)
 
 -- line i is the one that the step from what i steps left shows; z is any line
 module _ (lines : State → List ℕ → Marks → List Shown) (s : State) (z : Shown) where
-  first_line_lem : (x : Stepped) → 0 < length (trace_on lines s x) → seen_in x ≡ Seen.Step (get_or (trace_on lines s x) 0 z).line
+  first_line_lem : (x : Stepped) → 0 < length (trace_on lines s x) → seen_in x ≡ Some (get_or (trace_on lines s x) 0 z).line
   unfolding trace_on
   first_line_lem (stopped r) h = absurd (not-suc-le-zero h)
   first_line_lem (completed d l j y) h = refl
 
   later_line : (rest : State → List ℕ → Marks → Final) (tape i n : ℕ) (m : List ℕ) (k : Marks) (x : Stepped) → suc i < length (trace_on lines s x)
       → ((u : State) (l : List ℕ) (j : Marks) → i < length (lines u l j)
-      → seen_in (step_of tape (rest u l j).ended.state (rest u l j).mem (rest u l j).marks) ≡ Seen.Step (get_or (lines u l j) i z).line)
+      → seen_in (step_of tape (rest u l j).ended.state (rest u l j).mem (rest u l j).marks) ≡ Some (get_or (lines u l j) i z).line)
       → seen_in (step_of tape (go_on rest n s m k x).ended.state (go_on rest n s m k x).mem (go_on rest n s m k x).marks)
-      ≡ Seen.Step (get_or (trace_on lines s x) (suc i) z).line
+      ≡ Some (get_or (trace_on lines s x) (suc i) z).line
   unfolding trace_on go_on
   later_line rest tape i n m k (stopped r) h f = absurd (not-suc-le-zero h)
   later_line rest tape i n m k (completed d l j y) h f = f (after d s) l j (omega arith)
 
 pub nth_line : (b i n : ℕ) (t : List ℕ) (s : State) (m : List ℕ) (k : Marks) (z : Shown) → i < length (trace_of b n t s m k)
     → seen_in (step_of (get_or t (n + i) 0) (steps_of i n t s m k).ended.state (steps_of i n t s m k).mem (steps_of i n t s m k).marks)
-    ≡ Seen.Step (get_or (trace_of b n t s m k) i z).line
+    ≡ Some (get_or (trace_of b n t s m k) i z).line
 unfolding steps_of trace_of
 nth_line zero i n t s m k z h = absurd (not-suc-le-zero h)
 nth_line (suc b) zero n t s m k z h =

@@ -1,6 +1,6 @@
 -- Words that the theorems on the trace are stated in: what the line of a completed step says of that step.
 -- Assumes nothing.
-use Rattle.std.specs.Prelude.{ℕ, ◌+◌, ◌%◌, ◌≤◌, ◌<◌, ◌≡◌, true, false, not, ◌&&◌, List, get_or}
+use Rattle.std.specs.Prelude.{ℕ, ◌+◌, ◌%◌, ◌≤◌, ◌<◌, ◌≡◌, true, false, not, ◌&&◌, List, get_or, Err, None, Ok, Option, Some}
 use Rattle.word.specs.Bits.{on, field_of}
 use Rattle.word.specs.Numbers.{lsl_of}
 use Rattle.word.specs.Addresses.{aligned_of}
@@ -17,15 +17,14 @@ use Rattle.marks.specs.Memory.{Marks}
 use Rattle.instruction.specs.Fetch.{fetch_of}
 use Rattle.instruction.specs.Act.{reach_of, outside, loaded_from}
 use Rattle.instruction.specs.declared.Halt.{Halt}
-use Rattle.instruction.specs.declared.Fetched.{Fetched}
 use Rattle.instruction.specs.declared.Reach.{Reach}
 use Rattle.machine.specs.State.{value_at}
 use Rattle.machine.specs.Step.{chosen, data_of}
 use Rattle.machine.specs.declared.State.{State}
 use Rattle.machine.specs.declared.Event.{Event}
 use Rattle.machine.specs.declared.Done.{Done}
-use Rattle.machine.specs.declared.Data.{Data}
 use Rattle.machine.specs.declared.Line.{Line}
+use Rattle.word.specs.declared.ByteAddr.{ByteAddr}
 
 -- what instruction i reaches in state s, and what it makes of values and control part there, before the entry that it may make
 abbrev pub reach_in : Instr → State → Reach
@@ -38,19 +37,19 @@ effect_in i s m = exec i (value_at s (sources_of i).first).value (value_at s (so
 -- made: on the control part before the step if an entry was chosen or the fetch was a bus error, on what the instruction left if one was done, and at the next
 -- instruction if its data were outside memory; then the step's cost went by, and the timer fell or not.
 pub data Shows (t : ℕ) (s : State) (m : List ℕ) (k : Marks) (d : Done) (x : Line) : Type 0 where
-  by_choice : chosen t s.control ≡ Event.Enter x.entry → x.address ≡ Data.Nowhere
+  by_choice : chosen t s.control ≡ Event.Enter x.entry → x.address ≡ None
       → d.control ≡ passed (on s.control.psw 4) (entry_cost x.entry) (entered x.entry s.control)
       → Shows t s m k d x
-  by_instruction : (i : Instr) → chosen t s.control ≡ Event.Instruction → fetch_of (pc_of s.control) m k ≡ Fetched.Run i
+  by_instruction : (i : Instr) → chosen t s.control ≡ Event.Instruction → fetch_of (pc_of s.control) m k ≡ Ok i
       → outside (reach_in i s) m ≡ false → x.address ≡ data_of (reach_in i s)
       → d.control
       ≡ passed (on s.control.psw 4 && not (effect_in i s m).wrote) ((effect_in i s m).cost + entry_cost x.entry) (entered x.entry (effect_in i s m).control)
       → Shows t s m k d x
-  by_fetch : chosen t s.control ≡ Event.Instruction → fetch_of (pc_of s.control) m k ≡ Fetched.Halted Halt.FetchOutside
-      → x.entry ≡ Entry.FetchError → x.address ≡ Data.Nowhere
+  by_fetch : chosen t s.control ≡ Event.Instruction → fetch_of (pc_of s.control) m k ≡ Err Halt.FetchOutside
+      → x.entry ≡ Entry.FetchError → x.address ≡ None
       → d.control ≡ passed (on s.control.psw 4) 4 (entered Entry.FetchError s.control)
       → Shows t s m k d x
-  by_data : (i : Instr) → chosen t s.control ≡ Event.Instruction → fetch_of (pc_of s.control) m k ≡ Fetched.Run i
+  by_data : (i : Instr) → chosen t s.control ≡ Event.Instruction → fetch_of (pc_of s.control) m k ≡ Ok i
       → outside (reach_in i s) m ≡ true → x.entry ≡ Entry.DataError → x.address ≡ data_of (reach_in i s)
       → d.control ≡ passed (on s.control.psw 4) 4 (entered Entry.DataError (onward 2 s.control))
       → Shows t s m k d x
@@ -89,6 +88,6 @@ abbrev pub back_from : Control → Control
 back_from c = (exec (Instr.Jsfr 2) 0 0 0 c).control
 
 -- memory before and after a step changed only where its line says, in the (at most four) bytes from that address on
-abbrev pub ChangedAt : Data → List ℕ → List ℕ → Type 0
-ChangedAt Data.Nowhere m l = l ≡ m
-ChangedAt (Data.At a) m l = (i : ℕ) → (a.0 ≤ i → i < a.0 + 4 → ⊥) → get_or l i 0 ≡ get_or m i 0
+abbrev pub ChangedAt : Option ByteAddr → List ℕ → List ℕ → Type 0
+ChangedAt None m l = l ≡ m
+ChangedAt (Some a) m l = (i : ℕ) → (a.0 ≤ i → i < a.0 + 4 → ⊥) → get_or l i 0 ≡ get_or m i 0

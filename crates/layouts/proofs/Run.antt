@@ -1,5 +1,6 @@
 -- Runs with the same marks in two layouts, step after step.
 -- Assumes nothing.
+use Rattle.std.specs.Prelude.{Err, Ok, Result}
 use Prim.Native.Nat.{ℕ, zero, suc, ◌+◌}
 use mathlib.Core.Path.{◌≡◌, refl, ap, ◌∙◌}
 use mathlib.Core.List.{List, ◌∷◌}
@@ -9,9 +10,9 @@ use Rattle.machine.specs.Step.{Stepped, after}
 use Rattle.machine.specs.Run.{Final, judge, go_on, steps_of, judged, run_of}
 use Rattle.machine.specs.Trace.{Shown, trace_on, trace_of, shown, shown_of}
 use Rattle.machine.specs.declared.State.{State}
-use Rattle.machine.specs.declared.Judged.{Judged}
 use Rattle.layouts.specs.Layouts.{SameMarks, SameStep, stops, goes, SameEnd}
 use Rattle.layouts.proofs.Step.{step_same}
+use Rattle.instruction.specs.declared.Reply.{Reply}
 
 -- ---- the steps
 
@@ -45,18 +46,18 @@ module _ (b : ℕ) (t : List ℕ) (s : State) (m : List ℕ) (k j : Marks) (h : 
   unfolding judge
   judge_same = rw (h.left.room, h.left.rest, h.right.room, h.right.rest)
 
-  judged_same : (g : Judged) → SameEnd (judged g b t s m k) (judged g b t s m j)
-  judged_same (Judged.Refused r) = record { ended = refl; mem = refl; marks = h }
-  judged_same Judged.Good = steps_same b 0 t s m k j h
+  judged_same : (g : Result Unit Reply) → SameEnd (judged g b t s m k) (judged g b t s m j)
+  judged_same (Err r) = record { ended = refl; mem = refl; marks = h }
+  judged_same (Ok _) = steps_same b 0 t s m k j h
 
   pub run_same : SameEnd (run_of b t s m k) (run_of b t s m j)
   unfolding run_of
   run_same = rw judge_same (judged_same (judge b t s m j))
 
-  shown_by : (g : Judged) → shown g b t s m k ≡ shown g b t s m j
-  shown_by (Judged.Refused r) = refl
-  shown_by Judged.Good = trace_same b 0 t s m k j h
+  shown_by : (g : Result Unit Reply) → shown g b t s m k ≡ shown g b t s m j
+  shown_by (Err r) = refl
+  shown_by (Ok _) = trace_same b 0 t s m k j h
 
   pub shown_same : shown_of b t s m k ≡ shown_of b t s m j
   unfolding shown_of
-  shown_same = ap (λ (g : Judged). shown g b t s m k) judge_same ∙ shown_by (judge b t s m j)
+  shown_same = ap (λ (g : Result Unit Reply). shown g b t s m k) judge_same ∙ shown_by (judge b t s m j)

@@ -1,5 +1,6 @@
 -- One step with the same marks in two layouts: it stops with the same answer, or comes to the same state, memory, line and marks.
 -- Assumes nothing.
+use Rattle.std.specs.Prelude.{Err, None, Ok, Option, Result, Some}
 use Prim.Native.Nat.{ℕ}
 use mathlib.Core.Path.{◌≡◌, refl, ap}
 use mathlib.Core.Bool.{Bool, true, false, cond, not}
@@ -25,14 +26,12 @@ use Rattle.instruction.specs.Act.{Val, reach_of, outside, loaded_from, loaded_ma
 use Rattle.instruction.specs.Statements.{decoded_at}
 use Rattle.instruction.specs.declared.Reply.{Reply}
 use Rattle.instruction.specs.declared.Halt.{Halt}
-use Rattle.instruction.specs.declared.Fetched.{Fetched}
 use Rattle.instruction.specs.declared.Reach.{Reach}
 use Rattle.instruction.specs.declared.Act.{Act}
 use Rattle.machine.specs.State.{value_at}
 use Rattle.machine.specs.Step.{chosen, stored_to, marked_to, data_of, halt_step, act_step, instr_step, fetch_step, event_step, step_of}
 use Rattle.machine.specs.declared.State.{State}
 use Rattle.machine.specs.declared.Event.{Event}
-use Rattle.machine.specs.declared.Data.{Data}
 use Rattle.layouts.specs.Layouts.{SameMarks, SameStep, stops, goes}
 use Rattle.layouts.proofs.Places.{any_both, puts_both}
 
@@ -47,13 +46,13 @@ module _ (m : List ℕ) {k j : Marks} (s : SameMarks (length m) k j) where
 
   -- ---- the fetch
 
-  guarded_same : (a : ByteAddr) (x : Fetched) → guarded a m k x ≡ guarded a m j x
+  guarded_same : (a : ByteAddr) (x : Result Instr Halt) → guarded a m k x ≡ guarded a m j x
   guarded_same a x = when_inside (inside m a 2) (marked_at Width.Half k a) (marked_at Width.Half j a) _ _ x (marked_same Width.Half a)
 
-  found_same : (d : Decoded) (b : ByteAddr) → found d b m k ≡ found d b m j
-  found_same (Decoded.Short i) b = refl
-  found_same (Decoded.Long i) b = guarded_same b (Fetched.Run i)
-  found_same Decoded.Nothing b = refl
+  found_same : (d : Option Decoded) (b : ByteAddr) → found d b m k ≡ found d b m j
+  found_same (Some (Decoded.Short i)) b = refl
+  found_same (Some (Decoded.Long i)) b = guarded_same b (Ok i)
+  found_same None b = refl
 
   fetch_same : (a : ByteAddr) → fetch_of a m k ≡ fetch_of a m j
   unfolding fetch_of
@@ -75,14 +74,14 @@ module _ (m : List ℕ) {k j : Marks} (s : SameMarks (length m) k j) where
       rw (i, store_length (bytes_of w) m a.0 v) (puts_both s (bytes_of w) a.0 b (leb-true _ _ i))
   stored_same (Reach.Raises n) v b h = s
 
-  halt_same : (h : Halt) (a : Data) (f : Flags) (c : Control) → SameStep (halt_step h a f c m k) (halt_step h a f c m j)
+  halt_same : (h : Halt) (a : Option ByteAddr) (f : Flags) (c : Control) → SameStep (halt_step h a f c m k) (halt_step h a f c m j)
   halt_same Halt.FetchOutside a f c = goes _ m _ s
   halt_same Halt.FetchMarked a f c = stops Reply.FetchMarked
   halt_same Halt.NoInstruction a f c = stops Reply.NoInstruction
   halt_same Halt.MarkedOperand a f c = stops Reply.MarkedOperand
   halt_same Halt.DataOutside a f c = goes _ m _ s
 
-  act_same : (t u : Bool) (e : Effect) (n : Bool → Taint) (r : Reach) (a : Data) (x : Val) (f : Flags) (c : Control) → outside r m ≡ u
+  act_same : (t u : Bool) (e : Effect) (n : Bool → Taint) (r : Reach) (a : Option ByteAddr) (x : Val) (f : Flags) (c : Control) → outside r m ≡ u
       → SameStep (act_step (cond t (Act.Halted Halt.MarkedOperand) (cond u (Act.Halted Halt.DataOutside) (Act.Does e (n (loaded_mark r k)) r))) a x f c m k)
       (act_step (cond t (Act.Halted Halt.MarkedOperand) (cond u (Act.Halted Halt.DataOutside) (Act.Does e (n (loaded_mark r j)) r))) a x f c m j)
   act_same true u e n r a x f c h = stops Reply.MarkedOperand
@@ -100,9 +99,9 @@ module _ (m : List ℕ) {k j : Marks} (s : SameMarks (length m) k j) where
 
   -- ---- the step
 
-  fetched_same : (x : Fetched) (u : State) → SameStep (fetch_step x u m k) (fetch_step x u m j)
-  fetched_same (Fetched.Halted h) u = halt_same h Data.Nowhere u.flags u.control
-  fetched_same (Fetched.Run i) u = instr_same i u
+  fetched_same : (x : Result Instr Halt) (u : State) → SameStep (fetch_step x u m k) (fetch_step x u m j)
+  fetched_same (Err h) u = halt_same h None u.flags u.control
+  fetched_same (Ok i) u = instr_same i u
 
   event_same : (v : Event) (u : State) → SameStep (event_step v u m k) (event_step v u m j)
   event_same (Event.Enter e) u = goes _ m _ s

@@ -1,5 +1,6 @@
 -- Every line fits 48 bytes.
 -- Assumes nothing.
+use Rattle.std.specs.Prelude.{None, Option, Some}
 use Prim.Native.Nat.{ℕ, zero, suc, ◌+◌, ◌-◌, ◌*◌, ◌/◌, ◌%◌, ◌^◌, ◌<◌, ◌≤◌}
 use mathlib.Core.Path.{◌≡◌, refl}
 use mathlib.Core.Bool.{Bool, true, false, cond, ◌&&◌}
@@ -86,10 +87,10 @@ unfolding row_text
 three x y z n k j h i m l = rw (length-append (operand_text x), length-append (operand_text y)) (omega arith)
 
 -- a row has 20 bytes at most
-abbrev RowFits : ByteAddr → Decoded → Type 0
-RowFits a (Decoded.Short i) = length (row_text (row_of a i)) ≤ 20
-RowFits a (Decoded.Long i) = length (row_text (row_of a i)) ≤ 20
-RowFits a Decoded.Nothing = Unit {0}
+abbrev RowFits : ByteAddr → Option Decoded → Type 0
+RowFits a (Some (Decoded.Short i)) = length (row_text (row_of a i)) ≤ 20
+RowFits a (Some (Decoded.Long i)) = length (row_text (row_of a i)) ≤ 20
+RowFits a None = Unit {0}
 
 if_fits : (t : Bool) (a : ByteAddr) (i : Instr) → length (row_text (row_of a i)) ≤ 20 → RowFits a (short_if t i)
 if_fits true a i f = f
@@ -166,20 +167,20 @@ line_length x h =
     )
     (omega arith)
 
-shown_fits : (a : ByteAddr) (h : ℕ) (d : Decoded) → RowFits a d → length (row_text (shown_of a h d).row) ≤ 20
+shown_fits : (a : ByteAddr) (h : ℕ) (d : Option Decoded) → RowFits a d → length (row_text (shown_of a h d).row) ≤ 20
 unfolding shown_of
-shown_fits a h (Decoded.Short i) f = f
-shown_fits a h (Decoded.Long i) f = f
-shown_fits a h Decoded.Nothing f = one _ 7 (bits h) (omega arith)
+shown_fits a h (Some (Decoded.Short i)) f = f
+shown_fits a h (Some (Decoded.Long i)) f = f
+shown_fits a h None f = one _ 7 (bits h) (omega arith)
 
-cut_fits : (e : ℕ) (a : ByteAddr) (d : Decoded) → RowFits a d → RowFits a (cut_by e a d)
-cut_fits e a (Decoded.Short i) f = f
-cut_fits e a (Decoded.Long i) f = go (leb (a.0 + 4) e)
+cut_fits : (e : ℕ) (a : ByteAddr) (d : Option Decoded) → RowFits a d → RowFits a (cut_by e a d)
+cut_fits e a (Some (Decoded.Short i)) f = f
+cut_fits e a (Some (Decoded.Long i)) f = go (leb (a.0 + 4) e)
   where
-    go : (t : Bool) → RowFits a (cond t (Decoded.Long i) Decoded.Nothing)
+    go : (t : Bool) → RowFits a (cond t (Some (Decoded.Long i)) None)
     go true = f
     go false = tt
-cut_fits e a Decoded.Nothing f = f
+cut_fits e a None f = f
 
 pub line_fits : (m : List ℕ) (a : ByteAddr) (e : ℕ) → length (line_text (entry_at m a e)) ≤ 48
 unfolding entry_at decode_of

@@ -5,7 +5,8 @@ use mathlib.Core.Path.{◌≡◌, refl, sym, ap, ◌∙◌}
 use mathlib.Core.List.{List, [], ◌∷◌, ◌++◌, append_assoc}
 use native.Mathlib.Omega.{arith}
 use lib.Dec.{eqb}
-use lib.ListN.{length, get_or, drop, drop_of_length-le}
+use lib.ListN.{length, get_or, take, drop, drop_of_length-le}
+use mathlib.Core.Bool.{cond}
 use lib.Seq.{drop-cons}
 use borrow.Author.Tests.{eqb-true, eq-eqb, ne_eqb, lt-ltb}
 use Rattle.isa.proofs.Rows.{each_at}
@@ -83,47 +84,46 @@ register_two n l h =
     let b : 48 + n % 10 ≡ 38 + n = omega arith in
     sym (rw (decimal_two n l (omega arith), a, lt-ltb (n % 10) 10 (omega arith), b))
 
--- ---- names: from letter i of a place on, in the lent table t
+-- ---- names: from letter i of a place's six on
+
+-- six letters are enough
+six_letters : (n : ℕ) (l : List ℕ) → letters_in n (take n l) ≡ letters_in n l
+unfolding letters_in
+six_letters zero l = refl
+six_letters (suc n) [] = refl
+six_letters (suc n) (c ∷ l) = ap (λ (r : List ℕ). cond (eqb c 32) [] (c ∷ r)) (six_letters n l)
+
+-- of the lent table t
+pub name_first : (t l : List ℕ) (place : ℕ) (p : Page) → t ≡ names → l ≡ take 6 (drop (place * 6) t) → write_on (letters_in (6 - 0) (drop 0 l)) p ≡ write_on (name_at place) p
+unfolding name_at
+name_first t l place p et el =
+    let m : place * 6 ≡ 6 * place = omega arith in
+    let f : l ≡ take 6 (drop (6 * place) names) = rw (el, et, m) in
+    ap (λ (k : List ℕ). write_on k p) (ap (letters_in 6) f ∙ six_letters 6 (drop (6 * place) names))
 
 no_letters : (n : ℕ) → letters_in n [] ≡ []
 unfolding letters_in
 no_letters zero = refl
 no_letters (suc n) = refl
 
-module _ (t : List ℕ) (e : t ≡ names) (k i : ℕ) (p : Page) where
-  long : length t ≡ 492
-  unfolding names
-  long = ap (λ (l : List ℕ). length l) e
-
-  pub name_more : i < 6 → k + i < 492 → (get_or t (k + i) 0 ≡ 32 → ⊥)
-      → write_on (letters_in (6 - i) (drop (k + i) t)) p ≡ write_on (letters_in (6 - (i + 1)) (drop (k + (i + 1)) t)) (one_on (get_or t (k + i) 0) p)
+module _ (l : List ℕ) (i : ℕ) (p : Page) where
+  pub name_more : i < 6 → i < length l → (get_or l i 0 ≡ 32 → ⊥)
+      → write_on (letters_in (6 - i) (drop i l)) p ≡ write_on (letters_in (6 - (i + 1)) (drop (i + 1) l)) (one_on (get_or l i 0) p)
   unfolding letters_in write_on
   name_more h q d =
       let s : 6 - i ≡ suc (6 - (i + 1)) = omega arith in
-      let n : suc (k + i) ≡ k + (i + 1) = omega arith in
-      rw (s, drop-cons t (k + i) 0 (omega (arith, long, q)), ne_eqb _ _ d, n)
+      let n : suc i ≡ i + 1 = omega arith in
+      rw (s, drop-cons l i 0 q, ne_eqb _ _ d, n)
 
-  pub name_blank : i < 6 → k + i < 492 → get_or t (k + i) 0 ≡ 32 → write_on (letters_in (6 - i) (drop (k + i) t)) p ≡ p
+  pub name_blank : i < 6 → i < length l → get_or l i 0 ≡ 32 → write_on (letters_in (6 - i) (drop i l)) p ≡ p
   unfolding letters_in write_on
   name_blank h q d =
       let s : 6 - i ≡ suc (6 - (i + 1)) = omega arith in
-      rw (s, drop-cons t (k + i) 0 (omega (arith, long, q)), eq-eqb _ _ d)
+      rw (s, drop-cons l i 0 q, eq-eqb _ _ d)
 
-  pub name_past : 492 ≤ k + i → write_on (letters_in (6 - i) (drop (k + i) t)) p ≡ p
+  pub name_done : length l ≤ i → write_on (letters_in (6 - i) (drop i l)) p ≡ p
   unfolding write_on
-  name_past q = rw (drop_of_length-le t {i = k + i} (omega (arith, long, q)), no_letters (6 - i))
-
-  pub name_done : 6 ≤ i → write_on (letters_in (6 - i) (drop (k + i) t)) p ≡ p
-  unfolding letters_in write_on
-  name_done q =
-      let s : 6 - i ≡ 0 = omega arith in
-      rw s
-
-pub name_first : (t : List ℕ) (place : ℕ) (p : Page) → t ≡ names → write_on (letters_in (6 - 0) (drop (place * 6 + 0) t)) p ≡ write_on (name_at place) p
-unfolding name_at
-name_first t place p e =
-    let n : place * 6 + 0 ≡ 6 * place = omega arith in
-    rw (n, e)
+  name_done q = rw (drop_of_length-le l {i = i} q, no_letters (6 - i))
 
 -- ---- a line, part by part
 

@@ -1,5 +1,6 @@
 -- The listing in a lent buffer: refused, and done.
 -- Assumes nothing.
+use Rattle.std.specs.Prelude.{Err, Ok}
 use Prim.Native.Nat.{ℕ, ◌-◌, ◌*◌, ◌/◌, ◌%◌, ◌≤◌}
 use mathlib.Core.Path.{◌≡◌, refl, sym, ap₂, ◌∙◌}
 use mathlib.Core.Bool.{Bool, true, false, ◌||◌}
@@ -11,8 +12,8 @@ use borrow.Author.Tests.{ltb-false, eqb-false}
 use Rattle.listing.specs.Listing.{listing_of}
 use Rattle.listing.specs.Lent.{is_out_of, answered, listed_of}
 use Rattle.listing.specs.Parts.{Good, Kept}
-use Rattle.listing.specs.declared.Listed.{Listed}
 use Rattle.listing.proofs.Ranged.{long}
+use Rattle.listing.specs.declared.Refusal.{Refusal}
 
 neither : (a b : Bool) → (a || b) ≡ false → (a ≡ false) × (b ≡ false)
 neither true b e = let z : ◌≡◌ {A = ℕ} 0 1 = cc in absurd (omega arith)
@@ -48,16 +49,16 @@ roomy m s e n g h =
     omega arith
 
 module _ (m l : List ℕ) (s e : ℕ) where
-  pub lent_out : is_out_of (length m) s e ≡ true → answered Listed.OutOfImage l ≡ listed_of m s e l
+  pub lent_out : is_out_of (length m) s e ≡ true → answered (Err Refusal.OutOfImage) l ≡ listed_of m s e l
   unfolding listed_of
   lent_out h = rw h
 
   module _ (h : is_out_of (length m) s e ≡ false) where
-    pub lent_short : ltb (length l) (length (listing_of m s e)) ≡ true → answered Listed.NoRoom l ≡ listed_of m s e l
+    pub lent_short : ltb (length l) (length (listing_of m s e)) ≡ true → answered (Err Refusal.NoRoom) l ≡ listed_of m s e l
     unfolding listed_of
     lent_short k = rw (h, k)
 
     pub lent_done : (n : ℕ) (out : List ℕ) → ltb (length l) (length (listing_of m s e)) ≡ false → n ≡ length (listing_of m s e) → Kept out (listing_of m s e) l
-        → answered (Listed.Done n) out ≡ listed_of m s e l
+        → answered (Ok n) out ≡ listed_of m s e l
     unfolding listed_of
-    lent_done n out k en eo = ap₂ (λ (i : ℕ) (x : List ℕ). answered (Listed.Done i) x) en eo ∙ sym (rw (h, k))
+    lent_done n out k en eo = ap₂ (λ (i : ℕ) (x : List ℕ). answered (Ok i) x) en eo ∙ sym (rw (h, k))

@@ -1,7 +1,7 @@
 -- The listing of a range of an image (document 02, ticket 1), in document 01's written form: one line for each instruction, its address, its
 -- bits, its mnemonic and its operands, parted by tabs.
 -- Assumes nothing.
-use Rattle.std.specs.Prelude.{ℕ, zero, suc, ◌+◌, ◌-◌, ◌/◌, Bool, true, false, cond, List, [], ◌∷◌, ◌++◌, ltb, leb}
+use Rattle.std.specs.Prelude.{ℕ, zero, suc, ◌+◌, ◌-◌, ◌/◌, Bool, true, false, cond, List, [], ◌∷◌, ◌++◌, ltb, leb, None, Option, Some}
 use Rattle.word.specs.Numbers.{product_of}
 use Rattle.word.specs.Addresses.{jump_sum, byte_sum}
 use Rattle.word.specs.Bytes.{bytes_of, load_of}
@@ -61,16 +61,16 @@ row_text (Row.Three x y z) = operand_text x ++ (operand_text y ++ operand_text z
 -- ---- lines
 
 -- "begin one cut by the end": e is the end
-abbrev pub cut_by : ℕ → ByteAddr → Decoded → Decoded
-cut_by e a (Decoded.Short i) = Decoded.Short i
-cut_by e a (Decoded.Long i) = cond (leb (a.0 + 4) e) (Decoded.Long i) Decoded.Nothing
-cut_by e a Decoded.Nothing = Decoded.Nothing
+abbrev pub cut_by : ℕ → ByteAddr → Option Decoded → Option Decoded
+cut_by e a (Some (Decoded.Short i)) = Some (Decoded.Short i)
+cut_by e a (Some (Decoded.Long i)) = cond (leb (a.0 + 4) e) (Some (Decoded.Long i)) None
+cut_by e a None = None
 
 -- whether it has four bytes, the place of its mnemonic, its operands; "two bytes that are no instruction .. give `half` with them as a hex operand"
-unfoldable pub shown_of : ByteAddr → ℕ → Decoded → Shown
-shown_of a h (Decoded.Short i) = record { long = false; place = place_of (h / 256); row = row_of a i }
-shown_of a h (Decoded.Long i) = record { long = true; place = place_of (h / 256); row = row_of a i }
-shown_of a h Decoded.Nothing = record { long = false; place = half_place; row = Row.One (Operand.Bits h) }
+unfoldable pub shown_of : ByteAddr → ℕ → Option Decoded → Shown
+shown_of a h (Some (Decoded.Short i)) = record { long = false; place = place_of (h / 256); row = row_of a i }
+shown_of a h (Some (Decoded.Long i)) = record { long = true; place = place_of (h / 256); row = row_of a i }
+shown_of a h None = record { long = false; place = half_place; row = Row.One (Operand.Bits h) }
 
 abbrev pub half_in : List ℕ → ByteAddr → ℕ
 half_in m a = load_of Width.Half m a

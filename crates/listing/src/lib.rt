@@ -55,12 +55,9 @@ pub struct Line {
     pub next: ByteAddr,
 }
 
-#[derive(Clone, Copy)]
-pub enum Listed {
-    // so many bytes
-    Done(usize),
-    // the image is over the size limit, or the range is outside it, odd or reversed
-    OutOfImage,
-    // the listing is longer than the buffer
-    NoRoom,
+// The image is over the size limit or the range is outside it, odd or reversed; the listing is longer than the buffer.
+#[derive(Clone, Copy, Debug, PartialEq, Eq)]
+pub enum Refusal {
+    OutOfImage = 20,
+    NoRoom = 21,
 }

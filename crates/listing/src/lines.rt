@@ -1,18 +1,18 @@
 // One line: what stands at an address, and its text.
 ghost use Rattle.std.specs.Prelude.{◌≡◌, ◌/◌, ◌≤◌, cond, ◌++◌};
-ghost use Rattle.text.specs.Digits.{glyphs, hex_text, half_text};
+ghost use Rattle.text.specs.Digits.{hex_text, half_text};
 ghost use Rattle.text.specs.Pages.{page, write_on};
 ghost use Rattle.isa.specs.Statements.{is_long};
-ghost use Rattle.listing.specs.Names.{names};
 ghost use Rattle.listing.specs.Listing.{cut_by, shown_of, half_in, second_in, entry_at, tab, second_text, line_text};
 ghost use Rattle.listing.specs.Lent.{line_of};
 
-use crate::names::{place_of, put_name, table};
+use crate::names::{HALF_PLACE, Tables, place_of, put_name};
 use crate::rows::{put_row, row_of};
 use crate::{Entry, Line, Operand, Row, Shown};
 use isa::Decoded;
 use word::{ByteAddr, Width};
 
+#[tactic(auto, using(word::proofs::Memory::half_lt))]
 fn half_in(image: &[u8], at: ByteAddr) -> u16
     ensures { result ≡ half_in image.now at }
 {
@@ -23,10 +23,7 @@ fn is_long(first: u16) -> bool
     ensures { result ≡ is_long (first / 256) }
 {
     let n = first / 256;
-    if 224 <= n {
-        return n / 4 % 2 == 0;
-    }
-    false
+    224 <= n && n / 4 % 2 == 0
 }
 
 // The second half, where the first says that there is one.
@@ -34,51 +31,47 @@ fn second_in(image: &[u8], at: ByteAddr, first: u16) -> u16
     ensures { result ≡ second_in image.now at first }
 {
     if is_long(first) {
-        return half_in(image, word::byte_sum(at, 2));
+        half_in(image, word::byte_sum(at, 2))
+    } else {
+        0
     }
-    0
 }
 
-fn cut(end: usize, at: ByteAddr, d: Decoded) -> Decoded
+// With one arm `_ => d` for what isn't cut a line takes 25 instructions more.
+fn cut(end: usize, at: ByteAddr, d: Option<Decoded>) -> Option<Decoded>
     ensures { result ≡ cut_by end at d }
 {
     match d {
-        Decoded::Short(i) => Decoded::Short(i),
-        Decoded::Long(i) => {
-            let next = at.0 as usize + 4;
-            if next <= end {
-                Decoded::Long(i)
-            } else {
-                Decoded::Nothing
-            }
-        }
-        Decoded::Nothing => Decoded::Nothing,
+        Some(Decoded::Short(i)) => Some(Decoded::Short(i)),
+        Some(Decoded::Long(i)) if at.0 as usize + 4 <= end => Some(Decoded::Long(i)),
+        _ => None,
     }
 }
 
-fn shown(at: ByteAddr, first: u16, d: Decoded) -> Shown
+#[tactic(auto, unfolding(crate::specs::Listing::shown_of))]
+fn shown(at: ByteAddr, first: u16, d: Option<Decoded>) -> Shown
     ensures { result ≡ shown_of at first d }
 {
     match d {
-        Decoded::Short(i) => Shown {
+        Some(Decoded::Short(i)) => Shown {
             long: false,
             place: place_of(first),
             row: row_of(at, i),
         },
-        Decoded::Long(i) => Shown {
+        Some(Decoded::Long(i)) => Shown {
             long: true,
             place: place_of(first),
             row: row_of(at, i),
         },
-        // `half` stands in the table's last place, which no instruction has.
-        Decoded::Nothing => Shown {
+        None => Shown {
             long: false,
-            place: 81,
+            place: HALF_PLACE,
             row: Row::One(Operand::Bits(first)),
         },
     }
 }
 
+#[tactic(auto, unfolding(crate::specs::Listing::entry_at))]
 pub fn entry_at(image: &[u8], at: ByteAddr, end: usize) -> Entry
     ensures { result ≡ entry_at image.now at end }
 {
@@ -99,11 +92,11 @@ pub fn size(long: bool) -> u32
     if long { 4 } else { 2 }
 }
 
-// Address and first half: all their digits at once. The table of digits is lent.
-fn put_head(out: &mut [u8], at: usize, digits: &[u8; 16], a: u32, first: u16) -> usize
-    requires { digits.now ≡ glyphs }
+// Address and first half: all their digits at once. `put_hex` and `put_half` take 29 instructions a line more, of about 300.
+fn put_head(out: &mut [u8], at: usize, tables: &Tables, a: u32, first: u16) -> usize
     ensures { page out.new result ≡ write_on (hex_text a ++ tab (half_text first)) (page out.old at) }
 {
+    let digits = &tables.digits;
     let h = first as u32;
     let head = [
         text::last_digit(digits, a / 268435456),
@@ -124,27 +117,26 @@ fn put_head(out: &mut [u8], at: usize, digits: &[u8; 16], a: u32, first: u16) ->
 }
 
 // The second half, where there is one.
+#[tactic(auto, unfolding(text::specs::Pages::write_on))]
 fn put_second(out: &mut [u8], at: usize, long: bool, second: u16) -> usize
     ensures { page out.new result ≡ write_on (second_text long second) (page out.old at) }
 {
     if long {
-        return text::put_half(out, at, second);
+        text::put_half(out, at, second)
+    } else {
+        at
     }
-    at
 }
 
-pub fn put_entry(out: &mut [u8], at: usize, digits: &[u8; 16], table: &[u8; 492], x: Entry) -> usize
-    requires { (digits.now ≡ glyphs) × (table.now ≡ names) }
+#[tactic(auto, using(crate::proofs::Laws::line_written))]
+pub fn put_entry(out: &mut [u8], at: usize, tables: &Tables, x: Entry) -> usize
     ensures { page out.new result ≡ write_on (line_text x) (page out.old at) }
 {
-    let s = x.shown;
-    let address = x.at;
-    let row = s.row;
-    let a = put_head(out, at, digits, address.0, x.first);
-    let b = put_second(out, a, s.long, x.second);
+    let a = put_head(out, at, tables, x.at.0, x.first);
+    let b = put_second(out, a, x.shown.long, x.second);
     let c = text::put(out, b, b'\t');
-    let d = put_name(out, c, table, s.place);
-    let e = put_row(out, d, row);
+    let d = put_name(out, c, tables, x.shown.place);
+    let e = put_row(out, d, x.shown.row);
     text::put(out, e, b'\n')
 }
 
@@ -153,11 +145,8 @@ pub fn line_at(image: &[u8], at: ByteAddr, end: usize) -> Line
     ensures { result ≡ line_of image.now at end }
 {
     let x = entry_at(image, at, end);
-    let s = x.shown;
-    let next = word::byte_sum(at, size(s.long));
+    let next = word::byte_sum(at, size(x.shown.long));
     let mut text = [0u8; 48];
-    let digits = text::glyph_table();
-    let names = table();
-    let length = put_entry(&mut text, 0, &digits, &names, x);
+    let length = put_entry(&mut text, 0, &Tables::new(), x);
     Line { text, length, next }
 }

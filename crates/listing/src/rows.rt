@@ -11,46 +11,41 @@ use crate::{Operand, Row};
 use isa::Instr;
 use word::{ByteAddr, Width};
 
-// A load's or a store's: the offset in bytes.
-fn access(w: Width, c: u32, n: u32, d: u32) -> Row
-    ensures { result ≡ Row.Three (Operand.Reg c) (Operand.Number (product_of n (bytes_of w))) (Operand.Reg d) }
-{
-    Row::Three(
-        Operand::Reg(c),
-        Operand::Number(word::mult(n, word::bytes(w))),
-        Operand::Reg(d),
-    )
-}
-
+#[tactic(auto, unfolding(crate::specs::Listing::row_of))]
 pub fn row_of(at: ByteAddr, i: Instr) -> Row
     ensures { result ≡ row_of at i }
 {
     match i {
-        Instr::Alu(_, c, d) => Row::Two(Operand::Reg(c), Operand::Reg(d)),
-        Instr::ShiftImm(_, c, n) => Row::Two(Operand::Reg(c), Operand::Number(n)),
-        Instr::Cmp(_, c, d) => Row::Two(Operand::Reg(c), Operand::Reg(d)),
-        Instr::CmpImm(_, c, x) => Row::Two(Operand::Reg(c), Operand::Number(x)),
-        Instr::Cond(_, _, c, d) => Row::Two(Operand::Reg(c), Operand::Reg(d)),
-        Instr::CondImm(_, c, x) => Row::Two(Operand::Reg(c), Operand::Number(x)),
+        Instr::Alu(_, c, d) | Instr::Cmp(_, c, d) | Instr::Cond(_, _, c, d) => Row::Two(
+            Operand::Reg(c),
+            Operand::Reg(d),
+        ),
+        Instr::ShiftImm(_, c, x)
+        | Instr::CmpImm(_, c, x)
+        | Instr::CondImm(_, c, x)
+        | Instr::Imm(_, c, x) => Row::Two(Operand::Reg(c), Operand::Number(x)),
         Instr::Ldrpc(c, n) => Row::Two(
             Operand::Reg(c),
             Operand::Number(cpu::data_address(Width::Word, at.0, n).0),
         ),
-        Instr::Imm(_, c, x) => Row::Two(Operand::Reg(c), Operand::Number(x)),
-        Instr::Load(w, c, n, d) => access(w, c, n, d),
-        Instr::Store(w, c, n, d) => access(w, c, n, d),
+        Instr::Load(w, c, n, d) | Instr::Store(w, c, n, d) => Row::Three(
+            Operand::Reg(c),
+            Operand::Number(word::mult(n, word::bytes(w))),
+            Operand::Reg(d),
+        ),
         Instr::Mfsfr(c, s) => Row::Two(Operand::Reg(c), Operand::Sfr(s)),
         Instr::Mtsfr(s, d) => Row::Two(Operand::Sfr(s), Operand::Reg(d)),
-        Instr::Jr(d) => Row::One(Operand::Reg(d)),
-        Instr::Jrl(d) => Row::One(Operand::Reg(d)),
+        Instr::Jr(d) | Instr::Jrl(d) => Row::One(Operand::Reg(d)),
         Instr::Jsfr(s) => Row::One(Operand::Sfr(s)),
         Instr::Swint(n) => Row::One(Operand::Number(n)),
-        Instr::ShortJump(_, d) => Row::One(Operand::Number(word::jump_sum(at, d).0)),
-        Instr::LongJump(_, d) => Row::One(Operand::Number(word::jump_sum(at, d).0)),
+        Instr::ShortJump(_, d) | Instr::LongJump(_, d) => Row::One(Operand::Number(
+            word::jump_sum(at, d).0,
+        )),
     }
 }
 
 // The sixteen registers are most of what is written.
+#[tactic(auto, using(crate::proofs::Laws::register_one, crate::proofs::Laws::register_two), unfolding(crate::specs::Listing::operand_text, text::specs::Pages::write_on))]
 fn put_register(out: &mut [u8], at: usize, n: u32) -> usize
     ensures { page out.new result ≡ write_on (operand_text (Operand.Reg n)) (page out.old at) }
 {
@@ -64,6 +59,7 @@ fn put_register(out: &mut [u8], at: usize, n: u32) -> usize
     text::put_number(out, a, n as u64)
 }
 
+#[tactic(auto, unfolding(crate::specs::Listing::operand_text, text::specs::Pages::write_on))]
 fn put_operand(out: &mut [u8], at: usize, x: Operand) -> usize
     ensures { page out.new result ≡ write_on (operand_text x) (page out.old at) }
 {
@@ -84,6 +80,7 @@ fn put_operand(out: &mut [u8], at: usize, x: Operand) -> usize
     }
 }
 
+#[tactic(auto, using(text::proofs::Pages::write_append, text::proofs::Pages::write_three), unfolding(crate::specs::Listing::row_text))]
 pub fn put_row(out: &mut [u8], at: usize, r: Row) -> usize
     ensures { page out.new result ≡ write_on (row_text r) (page out.old at) }
 {

@@ -1,5 +1,6 @@
 -- Laws that the functions' proofs cite: the choice where nothing rare can happen, a step by its parts, and one more step of a run.
 -- Assumes nothing.
+use Rattle.std.specs.Prelude.{Err, None, Ok, Option, Result}
 use Prim.Native.Nat.{ℕ, suc, ◌+◌, ◌-◌, ◌*◌, ◌/◌, ◌%◌, ◌^◌, ◌<◌, ◌≤◌}
 use mathlib.Core.Path.{◌≡◌, refl, sym, ap, ◌∙◌}
 use mathlib.Core.Bool.{Bool, true, false, cond, not, beq, ◌&&◌}
@@ -28,7 +29,6 @@ use Rattle.instruction.specs.Act.{Val}
 use Rattle.instruction.specs.Parts.{first_half, second_half, by_second, rest_by, by_first}
 use Rattle.instruction.specs.declared.Reply.{Reply}
 use Rattle.instruction.specs.declared.Halt.{Halt}
-use Rattle.instruction.specs.declared.Half.{Half}
 use Rattle.instruction.specs.declared.Act.{Act}
 use Rattle.instruction.proofs.Laws.{fetch_by_parts}
 use Rattle.machine.proofs.Served.{Served, served_by}
@@ -37,13 +37,13 @@ use Rattle.machine.specs.Step.{Stepped, stopped, completed, lowest, chosen, done
 use Rattle.machine.specs.Run.{final, go_on, steps_of, judge, bad_length}
 use Rattle.machine.specs.Parts.{state_of, stops, goes, out_in, mem_in, marks_in, halted_to, begun_half, begun_by, begun_of, act_out, act_mem, act_marks, fetched_data, half_fetched, half_act, half_step, low_byte, begun_out, begun_mem, begun_marks}
 use Rattle.machine.specs.declared.State.{State}
-use Rattle.machine.specs.declared.Judged.{Judged}
 use Rattle.machine.specs.declared.Done.{Done}
-use Rattle.machine.specs.declared.Out.{Out}
 use Rattle.machine.specs.declared.Begun.{Begun}
-use Rattle.machine.specs.declared.Data.{Data}
-use Rattle.machine.specs.declared.Halted.{Halted}
 use Rattle.machine.specs.declared.Event.{Event}
+use Rattle.word.specs.declared.ByteAddr.{ByteAddr}
+use Rattle.cpu.specs.declared.Effect.{Effect}
+use Rattle.marks.specs.declared.Taint.{Taint}
+use Rattle.instruction.specs.declared.Reach.{Reach}
 
 -- a mark that is there already
 pub mark_stays : (marks : List Bool) (i : ℕ) (m : Bool) → beq (get_or marks i false) m ≡ true → set marks i m ≡ marks
@@ -89,13 +89,13 @@ module _ (s : State) (m : List ℕ) (k : Marks) where
   unfolding rest_by
   served h = go (second_half (kind_of (h / 256)) (after_half (pc_of s.control)) m k)
     where
-      go : (x : Half) → Served s m k (by_second x (kind_of (h / 256)) h) h
-      go (Half.Halted r) = refl
-      go (Half.Bits b) = served_by s m k (kind_of (h / 256)) h b
+      go : (x : Result ℕ Halt) → Served s m k (by_second x (kind_of (h / 256)) h) h
+      go (Err r) = refl
+      go (Ok b) = served_by s m k (kind_of (h / 256)) h b
 
   -- what a step is, by its start
   abbrev StepBy : Begun → Stepped → Type 0
-  StepBy (Begun.Halted h) x = x ≡ halt_step h Data.Nowhere s.flags s.control m k
+  StepBy (Begun.Halted h) x = x ≡ halt_step h None s.flags s.control m k
   StepBy (Begun.Enter c) x = (out_in x ≡ goes (record { control = c; flags = s.flags; reg = no_reg; value = 0; mark = false })) × (mem_in m x ≡ m) × (marks_in k x ≡ k)
   StepBy (Begun.Half hi lo) x = x ≡ half_step hi lo (value_at s (lo / 16)) (value_at s (lo % 16)) s.flags s.control m k
 
@@ -103,9 +103,9 @@ module _ (s : State) (m : List ℕ) (k : Marks) where
   unfolding step_of begun_of half_step half_act entry_done
   step_by_parts t = go (chosen t s.control)
     where
-      half : (x : Half) → StepBy (begun_half x) (fetch_step (by_first x (pc_of s.control) m k) s m k)
-      half (Half.Halted r) = refl
-      half (Half.Bits h) =
+      half : (x : Result ℕ Halt) → StepBy (begun_half x) (fetch_step (by_first x (pc_of s.control) m k) s m k)
+      half (Err r) = refl
+      half (Ok h) =
           let a : h / 256 * 256 + h % 256 ≡ h = omega arith in
           let b : h % 256 / 16 ≡ nib_c h = omega arith in
           let d : h % 256 % 16 ≡ nib_d h = omega arith in
@@ -152,14 +152,14 @@ module _ (b n : ℕ) (t : List ℕ) (s : State) (m : List ℕ) (k : Marks) (l : 
 entered_to : Control → Flags → Done
 entered_to e f = record { control = e; flags = f; reg = no_reg; value = 0; mark = false }
 
-halt_stops : (h : Halt) (a : Data) (f : Flags) (c : Control) (m : List ℕ) (k : Marks) (r : Reply) → halted_to h c ≡ Halted.Stop r → halt_step h a f c m k ≡ stopped r
+halt_stops : (h : Halt) (a : Option ByteAddr) (f : Flags) (c : Control) (m : List ℕ) (k : Marks) (r : Reply) → halted_to h c ≡ Err r → halt_step h a f c m k ≡ stopped r
 halt_stops Halt.FetchOutside a f c m k r e = let z : ◌≡◌ {A = ℕ} 0 1 = cc in absurd (omega arith)
 halt_stops Halt.FetchMarked a f c m k r e = let q : Reply.FetchMarked ≡ r = cc in ap stopped q
 halt_stops Halt.NoInstruction a f c m k r e = let q : Reply.NoInstruction ≡ r = cc in ap stopped q
 halt_stops Halt.MarkedOperand a f c m k r e = let q : Reply.MarkedOperand ≡ r = cc in ap stopped q
 halt_stops Halt.DataOutside a f c m k r e = let z : ◌≡◌ {A = ℕ} 0 1 = cc in absurd (omega arith)
 
-halt_enters : (h : Halt) (a : Data) (f : Flags) (c : Control) (m : List ℕ) (k : Marks) (n : Control) → halted_to h c ≡ Halted.Enter n
+halt_enters : (h : Halt) (a : Option ByteAddr) (f : Flags) (c : Control) (m : List ℕ) (k : Marks) (n : Control) → halted_to h c ≡ Ok n
     → (out_in (halt_step h a f c m k) ≡ goes (entered_to n f)) × (mem_in m (halt_step h a f c m k) ≡ m) × (marks_in k (halt_step h a f c m k) ≡ k)
 unfolding entry_done entered_to onward with_pc
 halt_enters Halt.FetchOutside a f c m k n e =
@@ -171,12 +171,12 @@ halt_enters Halt.DataOutside a f c m k n e =
     let q : passed (on c.psw 4) (entry_cost Entry.DataError) (entered Entry.DataError (onward 2 c)) ≡ n = cc in (ap (λ (u : Control). goes (entered_to u f)) q, refl, refl)
 
 -- an instruction by what it answers
-act_halts : (q : Act) (a : Data) (x : Val) (f : Flags) (c : Control) (m : List ℕ) (k : Marks) (h : Halt) → Out.Halted h ≡ act_out q c
+act_halts : (q : Act) (a : Option ByteAddr) (x : Val) (f : Flags) (c : Control) (m : List ℕ) (k : Marks) (h : Halt) → Err h ≡ act_out q c
     → (act_step q a x f c m k ≡ halt_step h a f c m k) × (act_mem q x m ≡ m) × (act_marks q x k ≡ k)
 act_halts (Act.Halted j) a x f c m k h e = let q : j ≡ h = cc in (ap (λ (i : Halt). halt_step i a f c m k) q, refl, refl)
 act_halts (Act.Does u t r) a x f c m k h e = let z : ◌≡◌ {A = ℕ} 0 1 = cc in absurd (omega arith)
 
-act_goes : (q : Act) (a : Data) (x : Val) (f : Flags) (c : Control) (m : List ℕ) (k : Marks) (d : Done) → Out.Go d ≡ act_out q c
+act_goes : (q : Act) (a : Option ByteAddr) (x : Val) (f : Flags) (c : Control) (m : List ℕ) (k : Marks) (d : Done) → Ok d ≡ act_out q c
     → (out_in (act_step q a x f c m k) ≡ goes d) × (mem_in m (act_step q a x f c m k) ≡ act_mem q x m) × (marks_in k (act_step q a x f c m k) ≡ act_marks q x k)
 act_goes (Act.Halted j) a x f c m k d e = let z : ◌≡◌ {A = ℕ} 0 1 = cc in absurd (omega arith)
 act_goes (Act.Does u t r) a x f c m k d e = let q : done_of c u t r ≡ d = cc in (ap goes q, refl, refl)
@@ -187,7 +187,7 @@ module _ (b n : ℕ) (t : List ℕ) (regs : List ℕ) (marks : List Bool) (f : F
   abbrev here : State
   here = state_of regs marks f c
 
-  abbrev out_from : Begun → Out
+  abbrev out_from : Begun → Result Done Halt
   out_from x = begun_out x (value_at here (lo / 16)) (value_at here (lo % 16)) f c m k
 
   abbrev mem_from : Begun → List ℕ
@@ -200,15 +200,15 @@ module _ (b n : ℕ) (t : List ℕ) (regs : List ℕ) (marks : List Bool) (f : F
   begun x e = rw (sym o ∙ e) at (step_by_parts here m k (get_or t n 0))
 
   -- the data address that a step shows where its instruction is not done
-  abbrev shown : Begun → Data
-  shown (Begun.Halted h) = Data.Nowhere
-  shown (Begun.Enter e) = Data.Nowhere
+  abbrev shown : Begun → Option ByteAddr
+  shown (Begun.Halted h) = None
+  shown (Begun.Enter e) = None
   shown (Begun.Half hi j) = fetched_data (half_fetched hi j c m k) (value_at here (j % 16)) c
 
-  halts : (x : Begun) → g ≡ x → (q : Halt) → Out.Halted q ≡ out_from x
+  halts : (x : Begun) → g ≡ x → (q : Halt) → Err q ≡ out_from x
       → (step_of (get_or t n 0) here m k ≡ halt_step q (shown x) f c m k) × (mem_from x ≡ m) × (marks_from x ≡ k)
   unfolding half_step
-  halts (Begun.Halted h) e q u = let p : h ≡ q = cc in (begun (Begun.Halted h) e ∙ ap (λ (i : Halt). halt_step i Data.Nowhere f c m k) p, refl, refl)
+  halts (Begun.Halted h) e q u = let p : h ≡ q = cc in (begun (Begun.Halted h) e ∙ ap (λ (i : Halt). halt_step i None f c m k) p, refl, refl)
   halts (Begun.Enter a) e q u = let z : ◌≡◌ {A = ℕ} 0 1 = cc in absurd (omega arith)
   halts (Begun.Half hi j) e q u =
       let s : lo ≡ j = w ∙ ap low_byte e in
@@ -216,7 +216,7 @@ module _ (b n : ℕ) (t : List ℕ) (regs : List ℕ) (marks : List Bool) (f : F
       let z = act_halts (half_act hi j (value_at here (j / 16)) (value_at here (j % 16)) f c m k) (shown (Begun.Half hi j)) (value_at here (j / 16)) f c m k q v in
       rw s (begun (Begun.Half hi j) e ∙ z.0, z.1, z.2)
 
-  goes_on : (x : Begun) → g ≡ x → (d : Done) → Out.Go d ≡ out_from x
+  goes_on : (x : Begun) → g ≡ x → (d : Done) → Ok d ≡ out_from x
       → (out_in (step_of (get_or t n 0) here m k) ≡ goes d) × (mem_in m (step_of (get_or t n 0) here m k) ≡ mem_from x) × (marks_in k (step_of (get_or t n 0) here m k) ≡ marks_from x)
   unfolding half_step
   goes_on (Begun.Halted h) e d u = let z : ◌≡◌ {A = ℕ} 0 1 = cc in absurd (omega arith)
@@ -229,14 +229,14 @@ module _ (b n : ℕ) (t : List ℕ) (regs : List ℕ) (marks : List Bool) (f : F
       let v = rw s at u in
       rw (s, begun (Begun.Half hi j) e) (act_goes (half_act hi j (value_at here (j / 16)) (value_at here (j % 16)) f c m k) (shown (Begun.Half hi j)) (value_at here (j / 16)) f c m k d v)
 
-  pub out_stops : (q : Halt) → Out.Halted q ≡ out_from g → (r : Reply) → Halted.Stop r ≡ halted_to q c
+  pub out_stops : (q : Halt) → Err q ≡ out_from g → (r : Reply) → Err r ≡ halted_to q c
       → (steps_of (b - n) n t here m k ≡ final r n here m k) × (mem_from g ≡ m) × (marks_from g ≡ k)
   out_stops q u r e =
       let z = halts g refl q u in
       ((steps_stop b n t here m k l (stopped r) r (z.0 ∙ halt_stops q _ f c m k r (sym e)) refl).0, z.1, z.2)
 
   -- a bus error writes no register
-  pub out_errs : (q : Halt) → Out.Halted q ≡ out_from g → (e : Control) → Halted.Enter e ≡ halted_to q c → length regs ≡ 16 → length marks ≡ 16
+  pub out_errs : (q : Halt) → Err q ≡ out_from g → (e : Control) → Ok e ≡ halted_to q c → length regs ≡ 16 → length marks ≡ 16
       → (m' : List ℕ) (k' : Marks) → m' ≡ mem_from g → k' ≡ marks_from g
       → steps_of (b - n) n t here m k ≡ steps_of (b - (n + 1)) (n + 1) t (state_of regs marks f e) m' k'
   unfolding after entered_to
@@ -246,7 +246,7 @@ module _ (b n : ℕ) (t : List ℕ) (regs : List ℕ) (marks : List Bool) (f : F
       steps_go b n t here m k l (halt_step q (shown g) f c m k) _ z.0 a.0
       ∙ rw (a.1, a.2, v ∙ z.1, v' ∙ z.2, set_out regs 16 0 (omega arith), set_out marks 16 false (omega arith))
 
-  pub out_goes : (d : Done) → Out.Go d ≡ out_from g → (rs : List ℕ) (ks : List Bool) (m' : List ℕ) (k' : Marks)
+  pub out_goes : (d : Done) → Ok d ≡ out_from g → (rs : List ℕ) (ks : List Bool) (m' : List ℕ) (k' : Marks)
       → rs ≡ set regs d.reg d.value → ks ≡ set marks d.reg d.mark → m' ≡ mem_from g → k' ≡ marks_from g
       → steps_of (b - n) n t here m k ≡ steps_of (b - (n + 1)) (n + 1) t (state_of rs ks d.flags d.control) m' k'
   unfolding after
@@ -256,20 +256,20 @@ module _ (b n : ℕ) (t : List ℕ) (regs : List ℕ) (marks : List Bool) (f : F
       ∙ rw (v.1, v.2, x, y, p, q)
 
 -- what is not refused: the tape is long enough
-passes : (u : Bool) (r : Reply) (x : Judged) → cond u (Judged.Refused r) x ≡ Judged.Good → (u ≡ false) × (x ≡ Judged.Good)
+passes : (u : Bool) (r : Reply) (x : Result Unit Reply) → cond u (Err r) x ≡ Ok tt → (u ≡ false) × (x ≡ Ok tt)
 passes true r x e = let z : ◌≡◌ {A = ℕ} 0 1 = cc in absurd (omega arith)
 passes false r x e = (refl, e)
 
-pub long_tape : (b : ℕ) (t : List ℕ) (s : State) (m : List ℕ) (k : Marks) → judge b t s m k ≡ Judged.Good → b ≤ length t
+pub long_tape : (b : ℕ) (t : List ℕ) (s : State) (m : List ℕ) (k : Marks) → judge b t s m k ≡ Ok tt → b ≤ length t
 unfolding judge
 long_tape b t s m k e =
-    let six : Judged = cond (any_above 63 (take b t)) (Judged.Refused Reply.TapeByte) Judged.Good in
-    let five : Judged = cond (ltb (length t) b) (Judged.Refused Reply.TapeLength) six in
-    let four : Judged = cond (out_of_form s.control) (Judged.Refused Reply.Form) five in
-    let three : Judged = cond (bad_mark (length m) k) (Judged.Refused Reply.MarkPastEnd) four in
-    let two : Judged = cond (bad_room (length m) k) (Judged.Refused Reply.MarkLength) three in
-    let b1 : two ≡ Judged.Good = (passes (bad_length (length m)) Reply.MemoryLength two e).1 in
-    let b2 : three ≡ Judged.Good = (passes (bad_room (length m) k) Reply.MarkLength three b1).1 in
-    let b3 : four ≡ Judged.Good = (passes (bad_mark (length m) k) Reply.MarkPastEnd four b2).1 in
-    let b4 : five ≡ Judged.Good = (passes (out_of_form s.control) Reply.Form five b3).1 in
+    let six : Result Unit Reply = cond (any_above 63 (take b t)) (Err Reply.TapeByte) (Ok tt) in
+    let five : Result Unit Reply = cond (ltb (length t) b) (Err Reply.TapeLength) six in
+    let four : Result Unit Reply = cond (out_of_form s.control) (Err Reply.Form) five in
+    let three : Result Unit Reply = cond (bad_mark (length m) k) (Err Reply.MarkPastEnd) four in
+    let two : Result Unit Reply = cond (bad_room (length m) k) (Err Reply.MarkLength) three in
+    let b1 : two ≡ Ok tt = (passes (bad_length (length m)) Reply.MemoryLength two e).1 in
+    let b2 : three ≡ Ok tt = (passes (bad_room (length m) k) Reply.MarkLength three b1).1 in
+    let b3 : four ≡ Ok tt = (passes (bad_mark (length m) k) Reply.MarkPastEnd four b2).1 in
+    let b4 : five ≡ Ok tt = (passes (out_of_form s.control) Reply.Form five b3).1 in
     ltb-false (length t) b (passes (ltb (length t) b) Reply.TapeLength six b4).0

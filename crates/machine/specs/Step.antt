@@ -1,6 +1,6 @@
 -- One step of the machine with marks (document 01, "One step"), and the line that it shows.
 -- Assumes nothing.
-use Rattle.std.specs.Prelude.{ℕ, zero, suc, ◌+◌, Bool, false, cond, not, ◌&&◌, List, ltb, set}
+use Rattle.std.specs.Prelude.{ℕ, zero, suc, ◌+◌, Bool, false, cond, not, ◌&&◌, List, ltb, set, Err, None, Ok, Option, Result, Some}
 use Rattle.word.specs.Bits.{on}
 use Rattle.word.specs.Bytes.{store_of}
 use Rattle.cpu.specs.Control.{pc_of}
@@ -18,15 +18,14 @@ use Rattle.instruction.specs.Fetch.{fetch_of}
 use Rattle.instruction.specs.Act.{Val, reach_of, act_of}
 use Rattle.instruction.specs.declared.Reply.{Reply}
 use Rattle.instruction.specs.declared.Halt.{Halt}
-use Rattle.instruction.specs.declared.Fetched.{Fetched}
-use Rattle.instruction.specs.declared.Reach.{Reach}
 use Rattle.instruction.specs.declared.Act.{Act}
+use Rattle.instruction.specs.declared.Reach.{Reach}
 use Rattle.machine.specs.State.{value_at}
 use Rattle.machine.specs.declared.State.{State}
 use Rattle.machine.specs.declared.Event.{Event}
 use Rattle.machine.specs.declared.Done.{Done}
-use Rattle.machine.specs.declared.Data.{Data}
 use Rattle.machine.specs.declared.Line.{Line}
+use Rattle.word.specs.declared.ByteAddr.{ByteAddr}
 
 -- ---- the choice
 
@@ -72,11 +71,11 @@ entry_by (Reach.Writes w a) c = watch_entry a c
 entry_by (Reach.Raises n) c = Entry.Swint n
 
 -- the address that its line shows
-abbrev pub data_of : Reach → Data
-data_of Reach.Nowhere = Data.Nowhere
-data_of (Reach.Reads w a) = Data.At a
-data_of (Reach.Writes w a) = Data.At a
-data_of (Reach.Raises n) = Data.Nowhere
+abbrev pub data_of : Reach → Option ByteAddr
+data_of Reach.Nowhere = None
+data_of (Reach.Reads w a) = Some a
+data_of (Reach.Writes w a) = Some a
+data_of (Reach.Raises n) = None
 
 -- ---- a step stops, or is completed: with what it makes of the registers and the control part, of memory and of its marks, and with the line that it shows
 
@@ -96,11 +95,11 @@ entry_done e f c =
     }
 
 abbrev pub entry_step : Entry → Flags → Control → List ℕ → Marks → Stepped
-entry_step e f c m k = completed (entry_done e f c) m k (record { pc = pc_of c; entry = e; address = Data.Nowhere })
+entry_step e f c m k = completed (entry_done e f c) m k (record { pc = pc_of c; entry = e; address = None })
 
 -- What comes of an instruction that is not done, one line for each reason: a stop, or a bus error, which is an entry (document 02, ticket 5). "On a fetch, ..
 -- IPC is the instruction's own address; on data, .. IPC is the next instruction, and no register, byte or watchpoint hit changes". a is the data address
-abbrev pub halt_step : Halt → Data → Flags → Control → List ℕ → Marks → Stepped
+abbrev pub halt_step : Halt → Option ByteAddr → Flags → Control → List ℕ → Marks → Stepped
 halt_step Halt.FetchOutside a f c m k = entry_step Entry.FetchError f c m k
 halt_step Halt.FetchMarked a f c m k = stopped Reply.FetchMarked
 halt_step Halt.NoInstruction a f c m k = stopped Reply.NoInstruction
@@ -124,7 +123,7 @@ unfoldable pub line_of : Control → Effect → Reach → Line
 line_of c e r = record { pc = pc_of c; entry = entry_by r e.control; address = data_of r }
 
 -- a is the data address, x what it may store
-abbrev pub act_step : Act → Data → Val → Flags → Control → List ℕ → Marks → Stepped
+abbrev pub act_step : Act → Option ByteAddr → Val → Flags → Control → List ℕ → Marks → Stepped
 act_step (Act.Halted h) a x f c m k = halt_step h a f c m k
 act_step (Act.Does e t r) a x f c m k = completed (done_of c e t r) (stored_to r x.value m) (marked_to r x.mark k) (line_of c e r)
 
@@ -141,9 +140,9 @@ instr_step i s m k =
     m
     k
 
-abbrev pub fetch_step : Fetched → State → List ℕ → Marks → Stepped
-fetch_step (Fetched.Halted h) s m k = halt_step h Data.Nowhere s.flags s.control m k
-fetch_step (Fetched.Run i) s m k = instr_step i s m k
+abbrev pub fetch_step : Result Instr Halt → State → List ℕ → Marks → Stepped
+fetch_step (Err h) s m k = halt_step h None s.flags s.control m k
+fetch_step (Ok i) s m k = instr_step i s m k
 
 abbrev pub event_step : Event → State → List ℕ → Marks → Stepped
 event_step (Event.Enter e) s m k = entry_step e s.flags s.control m k

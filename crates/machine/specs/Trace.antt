@@ -1,12 +1,12 @@
 -- The trace of a run: what its completed steps showed, in order.
 -- Assumes nothing.
-use Rattle.std.specs.Prelude.{ℕ, zero, suc, ◌+◌, List, [], ◌∷◌, get_or}
+use Rattle.std.specs.Prelude.{ℕ, zero, suc, ◌+◌, List, [], ◌∷◌, get_or, Err, Ok, Result}
 use Rattle.marks.specs.Memory.{Marks}
 use Rattle.machine.specs.Step.{Stepped, stopped, completed, step_of, after}
 use Rattle.machine.specs.Run.{judge}
 use Rattle.machine.specs.declared.State.{State}
-use Rattle.machine.specs.declared.Judged.{Judged}
 use Rattle.machine.specs.declared.Line.{Line}
+use Rattle.instruction.specs.declared.Reply.{Reply}
 
 -- what a completed step shows: its line, and the cycle count after it (document 02, ticket 6: "Demand 3 then also promises equal cycle counts")
 pub record Shown : Type 0 where
@@ -23,9 +23,9 @@ trace_of zero n t s m k = []
 trace_of (suc b) n t s m k = trace_on (trace_of b (n + 1) t) s (step_of (get_or t n 0) s m k)
 
 -- a refused run shows nothing
-abbrev pub shown : Judged → ℕ → List ℕ → State → List ℕ → Marks → List Shown
-shown (Judged.Refused r) b t s m k = []
-shown Judged.Good b t s m k = trace_of b 0 t s m k
+abbrev pub shown : Result Unit Reply → ℕ → List ℕ → State → List ℕ → Marks → List Shown
+shown (Err r) b t s m k = []
+shown (Ok _) b t s m k = trace_of b 0 t s m k
 
 unfoldable pub shown_of : ℕ → List ℕ → State → List ℕ → Marks → List Shown
 shown_of b t s m k = shown (judge b t s m k) b t s m k

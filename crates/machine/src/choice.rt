@@ -43,14 +43,14 @@ fn line_or(i: u32, c: Control) -> Event
 fn is_open(p: u32) -> bool
     ensures { result ≡ (on p 5 && not (on p 3)) }
 {
-    word::both(word::is_on(p, 5), !word::is_on(p, 3))
+    word::is_on(p, 5) && !word::is_on(p, 3)
 }
 
 fn choose_any(t: u32, c: Control) -> Event
     ensures { result ≡ chosen t c }
 {
     if is_open(c.psw) {
-        if word::both(c.pending, word::is_on(c.psw, 4)) {
+        if c.pending && word::is_on(c.psw, 4) {
             return Event::Enter(Entry::Timer);
         }
         return line_or(lowest_line(t, c.psw), c);
@@ -62,11 +62,7 @@ fn choose_any(t: u32, c: Control) -> Event
 fn is_calm(t: u32, c: Control) -> bool
     ensures { result ≡ true → chosen t c ≡ Event.Instruction }
 {
-    if t == 0 {
-        word::both(word::field(c.hwdbg, 2, 2) == 0, !c.pending)
-    } else {
-        false
-    }
+    t == 0 && word::field(c.hwdbg, 2, 2) == 0 && !c.pending
 }
 
 pub fn choose(t: u32, c: Control) -> Event

@@ -19,27 +19,13 @@ pub fn fresh() -> State
     }
 }
 
-// Registers with one of them replaced; where there is no such register, as they were.
-pub fn put_value(regs: [u32; 16], i: u32, v: u32) -> [u32; 16]
-    ensures { result ≡ set regs i v }
+// The values or the marks with one of them replaced; where there is no such register, as they were.
+pub fn put<T: Copy>(all: [T; 16], i: u32, x: T) -> [T; 16]
+    ensures { result ≡ set all i x }
 {
+    let mut after = all;
     if i < 16 {
-        let mut n = regs;
-        let k = i as usize;
-        n[k] = v;
-        return n;
+        after[i as usize] = x;
     }
-    regs
-}
-
-pub fn put_mark(marks: [bool; 16], i: u32, m: bool) -> [bool; 16]
-    ensures { result ≡ set marks i m }
-{
-    if i < 16 {
-        let mut n = marks;
-        let k = i as usize;
-        n[k] = m;
-        return n;
-    }
-    marks
+    after
 }

@@ -6,42 +6,32 @@ ghost use Rattle.machine.specs.Run.{steps_of, run_of};
 ghost use Rattle.machine.specs.Parts.{state_of};
 
 use crate::refusals::judge_all;
-use crate::registers::{put_mark, put_value};
+use crate::registers::put;
 use crate::step::{begin, halt, low_byte, make_step};
-use crate::{Ended, Halted, Judged, Out, State};
+use crate::{Ended, State};
 use cpu::Control;
 use instruction::Reply;
 use marks::Flags;
 
-fn wide(x: u8) -> u32
-    ensures { result ≡ x }
+fn end_at(state: State, steps: usize, reply: Reply) -> Ended
+    ensures { result ≡ record { state = state; steps = steps; reply = reply; cycles = state.control.cycles } }
 {
-    x as u32
-}
-
-fn end_at(
-    regs: [u32; 16],
-    marks: [bool; 16],
-    tf: bool,
-    cy: bool,
-    control: Control,
-    steps: usize,
-    reply: Reply,
-) -> Ended
-    ensures { result ≡ record { state = state_of regs marks (flags tf cy) control; steps = steps; reply = reply; cycles = control.cycles } }
-{
-    let cycles = control.cycles;
-    let state = State {
-        regs,
-        marks,
-        flags: Flags { tf, cy },
-        control,
-    };
     Ended {
         state,
         steps,
         reply,
-        cycles,
+        cycles: state.control.cycles,
+    }
+}
+
+fn state_from(regs: [u32; 16], marks: [bool; 16], tf: bool, cy: bool, control: Control) -> State
+    ensures { result ≡ state_of regs marks (flags tf cy) control }
+{
+    State {
+        regs,
+        marks,
+        flags: Flags { tf, cy },
+        control,
     }
 }
 
@@ -58,9 +48,8 @@ fn steps(b: usize, t: &[u8], s: State, m: &mut [u8], k: &mut [u8]) -> Ended
     let mut tf = s.flags.tf;
     let mut cy = s.flags.cy;
     let mut control = s.control;
-    let mut n: usize = 0;
-    while n < b {
-        let g = begin(wide(t[n]), control, m, k);
+    for n in 0..b {
+        let g = begin(u32::from(t[n]), control, m, k);
         let lo = low_byte(g);
         let i = (lo / 16) as usize;
         let j = (lo % 16) as usize;
@@ -68,38 +57,29 @@ fn steps(b: usize, t: &[u8], s: State, m: &mut [u8], k: &mut [u8]) -> Ended
             g, regs[i], marks[i], regs[j], marks[j], tf, cy, control, m, k,
         );
         match out {
-            Out::Halted(h) => {
-                let x = halt(h, control);
-                match x {
-                    Halted::Stop(reply) => {
-                        return end_at(regs, marks, tf, cy, control, n, reply);
-                    }
-                    Halted::Enter(e) => {
-                        control = e;
-                        n += 1;
-                    }
+            Err(h) => match halt(h, control) {
+                Err(reply) => {
+                    return end_at(state_from(regs, marks, tf, cy, control), n, reply);
                 }
-            }
-            Out::Go(d) => {
-                let c = d.control;
+                Ok(entered) => control = entered,
+            },
+            Ok(d) => {
                 tf = d.flags.tf;
                 cy = d.flags.cy;
-                control = c;
-                n += 1;
+                control = d.control;
                 if d.reg < 16 {
                     let z = d.reg as usize;
-                    let was = marks[z];
-                    if word::same(was, d.mark) {
+                    if marks[z] == d.mark {
                         regs[z] = d.value;
                     } else {
-                        regs = put_value(regs, d.reg, d.value);
-                        marks = put_mark(marks, d.reg, d.mark);
+                        regs = put(regs, d.reg, d.value);
+                        marks = put(marks, d.reg, d.mark);
                     }
                 }
             }
         }
     }
-    end_at(regs, marks, tf, cy, control, n, Reply::Budget)
+    end_at(state_from(regs, marks, tf, cy, control), b, Reply::Budget)
 }
 
 // A run over any memory, marks, state, tape and budget.
@@ -108,14 +88,8 @@ pub fn run(b: usize, t: &[u8], s: State, m: &mut [u8], k: &mut [u8]) -> Ended
     ensures m_after { m.new ≡ (run_of b t.now s m.old (bits k.old)).mem }
     ensures k_after { bits k.new ≡ (run_of b t.now s m.old (bits k.old)).marks }
 {
-    let j = judge_all(b, t, s, m, k);
-    match j {
-        Judged::Refused(reply) => Ended {
-            state: s,
-            steps: 0,
-            reply,
-            cycles: s.control.cycles,
-        },
-        Judged::Good => steps(b, t, s, m, k),
+    match judge_all(b, t, s, m, k) {
+        Err(reply) => end_at(s, 0, reply),
+        Ok(()) => steps(b, t, s, m, k),
     }
 }

@@ -10,9 +10,9 @@ ghost use Rattle.machine.specs.Parts.{halted_to, begun_of, act_out, act_mem, act
 ghost use Rattle.machine.specs.declared.Begun.{Begun};
 
 use crate::choice::choose;
-use crate::{Begun, Done, Event, Halted, Out};
+use crate::{Begun, Done, Event};
 use cpu::{Control, Effect, Entry};
-use instruction::{Act, Fetched, Half, Halt, Reach, Reply};
+use instruction::{Act, Halt, Reach, Reply};
 use marks::{Flags, Taint};
 use word::ByteAddr;
 
@@ -24,16 +24,16 @@ fn enter(e: Entry, c: Control) -> Begun
 }
 
 // What comes of an instruction that is not done, from control part c on.
-pub fn halt(h: Halt, c: Control) -> Halted
+pub fn halt(h: Halt, c: Control) -> Result<Control, Reply>
     ensures { result ≡ halted_to h c }
 {
     let te = word::is_on(c.psw, 4);
     match h {
-        Halt::FetchOutside => Halted::Enter(cpu::pass(te, 4, cpu::fetch_error(c))),
-        Halt::FetchMarked => Halted::Stop(Reply::FetchMarked),
-        Halt::NoInstruction => Halted::Stop(Reply::NoInstruction),
-        Halt::MarkedOperand => Halted::Stop(Reply::MarkedOperand),
-        Halt::DataOutside => Halted::Enter(cpu::pass(te, 4, cpu::data_error(c))),
+        Halt::FetchOutside => Ok(cpu::pass(te, 4, cpu::fetch_error(c))),
+        Halt::FetchMarked => Err(Reply::FetchMarked),
+        Halt::NoInstruction => Err(Reply::NoInstruction),
+        Halt::MarkedOperand => Err(Reply::MarkedOperand),
+        Halt::DataOutside => Ok(cpu::pass(te, 4, cpu::data_error(c))),
     }
 }
 
@@ -41,16 +41,12 @@ pub fn halt(h: Halt, c: Control) -> Halted
 pub fn begin(t: u32, c: Control, m: &[u8], mk: &[u8]) -> Begun
     ensures { result ≡ begun_of t c m.now (bits mk.now) }
 {
-    let e = choose(t, c);
-    match e {
+    match choose(t, c) {
         Event::Enter(x) => enter(x, c),
-        Event::Instruction => {
-            let f = instruction::fetch::first_half(ByteAddr(c.pc), m, mk);
-            match f {
-                Half::Halted(h) => Begun::Halted(h),
-                Half::Bits(h) => Begun::Half((h / 256) as u8, (h % 256) as u8),
-            }
-        }
+        Event::Instruction => match instruction::fetch::first_half(ByteAddr(c.pc), m, mk) {
+            Err(h) => Begun::Halted(h),
+            Ok(h) => Begun::Half((h / 256) as u8, (h % 256) as u8),
+        },
     }
 }
 
@@ -59,13 +55,13 @@ pub fn entry_of(r: Reach, c: Control) -> Entry
 {
     match r {
         Reach::Nowhere => Entry::Nothing,
-        Reach::Reads(_, a) => cpu::watch(a, c),
-        Reach::Writes(_, a) => cpu::watch(a, c),
+        Reach::Reads(_, a) | Reach::Writes(_, a) => cpu::watch(a, c),
         Reach::Raises(n) => Entry::Swint(n),
     }
 }
 
-// The same entry made. A match on what is reached costs the loop less than one on the entry.
+// The same entry made. A match on what is reached costs the loop less than one on the entry. Here, in cost_by and in write_at each way has an arm of its
+// own: with alternatives in a pattern the images of bench/ take 100 to 131 instructions a step, in place of 84 to 106.
 fn enter_by(r: Reach, c: Control) -> Control
     ensures { result ≡ entered (entry_by r c) c }
 {
@@ -89,11 +85,12 @@ fn cost_by(r: Reach, c: Control) -> u8
     }
 }
 
+// The flags go over one by one: as a struct they are packed and unpacked, and the images of bench/ take 92 to 117 instructions a step, in place of 84 to 106.
 fn finish(c: Control, e: Effect, t: Taint, r: Reach) -> Done
     ensures { result ≡ done_of c e t r }
 {
     let made = e.control;
-    let te = word::both(word::is_on(c.psw, 4), !e.wrote);
+    let te = word::is_on(c.psw, 4) && !e.wrote;
     let cost = e.cost as u32 + cost_by(r, made) as u32;
     Done {
         control: cpu::pass(te, cost, enter_by(r, made)),
@@ -122,16 +119,16 @@ fn write_at(r: Reach, u: u32, mu: bool, m: &mut [u8], mk: &mut [u8])
     }
 }
 
-fn act_step(a: Act, u: u32, mu: bool, c: Control, m: &mut [u8], mk: &mut [u8]) -> Out
+fn act_step(a: Act, u: u32, mu: bool, c: Control, m: &mut [u8], mk: &mut [u8]) -> Result<Done, Halt>
     ensures value { result ≡ act_out a c }
     ensures m_after { m.new ≡ act_mem a (val u mu) m.old }
     ensures mk_after { bits mk.new ≡ act_marks a (val u mu) (bits mk.old) }
 {
     match a {
-        Act::Halted(h) => Out::Halted(h),
+        Act::Halted(h) => Err(h),
         Act::Does(e, t, r) => {
             write_at(r, u, mu, m, mk);
-            Out::Go(finish(c, e, t, r))
+            Ok(finish(c, e, t, r))
         }
     }
 }
@@ -150,20 +147,16 @@ fn half_step(
     c: Control,
     m: &mut [u8],
     mk: &mut [u8],
-) -> Out
+) -> Result<Done, Halt>
     ensures value { result ≡ act_out (half_act hi lo (val u mu) (val v mv) (flags tf cy) c m.old (bits mk.old)) c }
     ensures m_after { m.new ≡ act_mem (half_act hi lo (val u mu) (val v mv) (flags tf cy) c m.old (bits mk.old)) (val u mu) m.old }
     ensures mk_after { bits mk.new ≡ act_marks (half_act hi lo (val u mu) (val v mv) (flags tf cy) c m.old (bits mk.old)) (val u mu) (bits mk.old) }
 {
     let kind = isa::kind_of(hi);
-    let f = instruction::fetch::rest_at(kind, hi as u16 * 256 + lo as u16, ByteAddr(c.pc), m, mk);
-    match f {
-        Fetched::Halted(h) => Out::Halted(h),
-        Fetched::Run(i) => {
-            let a = instruction::classes::act_on(i, u, mu, v, mv, tf, cy, c, m, mk);
-            act_step(a, u, mu, c, m, mk)
-        }
-    }
+    let half = hi as u16 * 256 + lo as u16;
+    let i = instruction::fetch::rest_at(kind, half, ByteAddr(c.pc), m, mk)?;
+    let a = instruction::classes::act_on(i, u, mu, v, mv, tf, cy, c, m, mk);
+    act_step(a, u, mu, c, m, mk)
 }
 
 // The byte that names the registers that are read; any would do where no instruction is made.
@@ -189,14 +182,14 @@ pub fn make_step(
     c: Control,
     m: &mut [u8],
     mk: &mut [u8],
-) -> Out
+) -> Result<Done, Halt>
     ensures value { result ≡ begun_out g (val u mu) (val v mv) (flags tf cy) c m.old (bits mk.old) }
     ensures m_after { m.new ≡ begun_mem g (val u mu) (val v mv) (flags tf cy) c m.old (bits mk.old) }
     ensures mk_after { bits mk.new ≡ begun_marks g (val u mu) (val v mv) (flags tf cy) c m.old (bits mk.old) }
 {
     match g {
-        Begun::Halted(h) => Out::Halted(h),
-        Begun::Enter(control) => Out::Go(Done {
+        Begun::Halted(h) => Err(h),
+        Begun::Enter(control) => Ok(Done {
             control,
             flags: Flags { tf, cy },
             reg: cpu::NO_REG,

@@ -1,65 +1,30 @@
 -- Laws that the functions' proofs cite: numbers read digit by digit, and a line more in a part.
 -- Assumes nothing.
+use Rattle.std.specs.Prelude.{None, Some}
 use Prim.Native.Nat.{ℕ, ◌+◌, ◌*◌, ◌^◌, ◌<◌, ◌≤◌}
-use mathlib.Core.Path.{◌≡◌, refl, sym, ap, subst, ◌∙◌}
-use mathlib.Core.Bool.{Bool, true, false, cond, ◌&&◌}
+use mathlib.Core.Path.{◌≡◌, refl, sym, ap, ◌∙◌}
+use mathlib.Core.Bool.{Bool, true, false, cond}
 use mathlib.Core.List.{List, [], ◌∷◌, ◌++◌, append_assoc}
 use native.Mathlib.Nat.{mul-le-mul_left}
 use native.Mathlib.Numerals.{add-one}
 use native.Mathlib.Omega.{arith}
 use lib.Dec.{ltb, eqb}
+use lib.Pointwise.{pointwise}
 use lib.ListN.{length, get_or, take, drop, replicate, length-append, drop_of_length-le}
 use lib.Seq.{drop-cons, sets, sets-eq, length-sets, length-take-le, take-append_seam, take_at}
-use borrow.Author.Tests.{ltb-true, lt-ltb, le-ltb}
+use borrow.Author.Tests.{lt-ltb, le-ltb}
 use Rattle.word.specs.declared.ByteAddr.{ByteAddr}
-use Rattle.text.specs.Digits.{value_of, pair_of}
 use Rattle.text.specs.Pages.{Page, page, write_on}
 use Rattle.text.specs.Fields.{same_of}
-use Rattle.text.specs.declared.Read.{Read}
 use Rattle.text.proofs.Pages.{written_at}
 use Rattle.listing.specs.Listing.{entry_at, size_of, line_text, listing_of}
-use Rattle.listing.specs.Lent.{is_out_of, line_of}
+use Rattle.listing.specs.Lent.{line_of}
 use Rattle.listing.specs.declared.Line.{Line}
 use Rattle.listing.proofs.Fits.{line_fits}
 use Rattle.listing.proofs.Ranged.{size_low, size_high, from, after, listing_more}
-use Rattle.listing.proofs.Lent.{good}
-use Rattle.manik_list.specs.declared.image.Got.{Got}
-use Rattle.manik_list.specs.declared.ranges.Why.{Why}
-use Rattle.manik_list.specs.Ranges.{is_refused}
-use Rattle.manik_list.specs.Reads.{Within}
-use Rattle.manik_list.specs.Numbers.{lower_of, digit_of, number_in, is_hex, word_of}
+use Rattle.manik_list.specs.Numbers.{digit_of, number_in, is_hex, word_of}
 
 -- ---- digits
-
-apart : false ≡ true → ⊥
-apart e = let z : ◌≡◌ {A = ℕ} 0 1 = cc in omega arith
-
-either_le : (t : Bool) (a b n : ℕ) → (t ≡ true → a ≤ n) → (t ≡ false → b ≤ n) → cond t a b ≤ n
-either_le true a b n f g = f refl
-either_le false a b n f g = g refl
-
-value_low : (c : ℕ) → value_of c ≤ 16
-unfolding value_of
-value_low c =
-    either_le (ltb c 48) _ _ 16 (λ e. omega arith)
-    (λ e. either_le (ltb c 58) _ _ 16 (λ f. omega (arith, ltb-true c 58 f))
-    (λ f. either_le (ltb c 97) _ _ 16 (λ g. omega arith)
-    (λ g. either_le (ltb c 103) _ _ 16 (λ h. omega (arith, ltb-true c 103 h)) (λ h. omega arith))))
-
-zero_digit : value_of 48 ≡ 0
-unfolding value_of
-zero_digit = refl
-
--- a pair of digits that begins with 0
-pair_digit : (c : ℕ) → pair_of 48 c ≡ value_of c
-pair_digit c =
-    let v = value_low c in
-    rw zero_digit (omega arith)
-
-pub digit_made : (c d r : ℕ) → d ≡ lower_of c → r ≡ pair_of 48 d → (r ≡ digit_of c) × (r ≤ 16)
-digit_made c d r ed er =
-    let e : r ≡ digit_of c = er ∙ pair_digit d ∙ ap value_of ed in
-    (e, omega (arith, e, value_low (lower_of c)))
 
 module _ (l : List ℕ) (i : ℕ) (h : i < length l) where
   next : drop i l ≡ get_or l i 0 ∷ drop (i + 1) l
@@ -70,35 +35,32 @@ module _ (l : List ℕ) (i : ℕ) (h : i < length l) where
   unfolding number_in
   number_on b v d e k = rw (next, ← e, lt-ltb d b k)
 
-  pub number_stop : (b v d : ℕ) → d ≡ digit_of (get_or l i 0) → b ≤ d → number_in b v (drop i l) ≡ Read.Nothing
+  pub number_stop : (b v d : ℕ) → d ≡ digit_of (get_or l i 0) → b ≤ d → number_in b v (drop i l) ≡ None
   unfolding number_in
   number_stop b v d e k = rw (next, ← e, le-ltb d b k)
 
-pub number_none : (l : List ℕ) (i b v : ℕ) → length l ≤ i → v < 2 ^ 32 → number_in b v (drop i l) ≡ Read.Number v
+pub number_none : (l : List ℕ) (i b v : ℕ) → length l ≤ i → v < 2 ^ 32 → number_in b v (drop i l) ≡ Some v
 unfolding number_in
 number_none l i b v h k = rw (drop_of_length-le l h, lt-ltb v (2 ^ 32) k)
 
 -- a number that does not fit stays so
-pub number_over : (l : List ℕ) (b v : ℕ) → 1 ≤ b → 2 ^ 32 ≤ v → number_in b v l ≡ Read.Nothing
+pub number_over : (l : List ℕ) (b v : ℕ) → 1 ≤ b → 2 ^ 32 ≤ v → number_in b v l ≡ None
 unfolding number_in
 number_over [] b v h k = rw (le-ltb v (2 ^ 32) k)
 number_over (c ∷ l) b v h k = go (ltb (digit_of c) b) (number_over l b (v * b + digit_of c) h (omega (arith, mul-le-mul_left v h)))
   where
-    go : (t : Bool) → number_in b (v * b + digit_of c) l ≡ Read.Nothing → cond t (number_in b (v * b + digit_of c) l) Read.Nothing ≡ Read.Nothing
+    go : (t : Bool) → number_in b (v * b + digit_of c) l ≡ None → cond t (number_in b (v * b + digit_of c) l) None ≡ None
     go true e = e
     go false e = refl
 
-pub hex_long : (l : List ℕ) → is_hex l ≡ true → 2 ≤ length l
+-- whether a word begins with 0x, as std's strip_prefix says it
+pub hex_same : (l : List ℕ) → is_hex l ≡ pointwise eqb (take 2 l) (48 ∷ 120 ∷ [])
 unfolding same_of
-hex_long [] e = absurd (apart e)
-hex_long (c ∷ []) e = absurd (go (eqb c 48) e)
-  where
-    go : (t : Bool) → (t && false) ≡ true → ⊥
-    go true f = apart f
-    go false f = apart f
-hex_long (c ∷ d ∷ l) e = omega arith
+hex_same [] = refl
+hex_same (c ∷ []) = refl
+hex_same (c ∷ d ∷ l) = refl
 
-pub word_none : (l : List ℕ) (b : ℕ) → length l ≡ 0 → word_of b l ≡ Read.Nothing
+pub word_none : (l : List ℕ) (b : ℕ) → length l ≡ 0 → word_of b l ≡ None
 unfolding word_of
 word_none [] b h = refl
 word_none (c ∷ l) b h = absurd (omega arith)
@@ -107,16 +69,6 @@ pub word_first : (l : List ℕ) (b : ℕ) → (length l ≡ 0 → ⊥) → numbe
 unfolding word_of
 word_first [] b h = absurd (h refl)
 word_first (c ∷ l) b h = refl
-
--- ---- reads and ranges
-
-pub read_most : (g : Got) (k n : ℕ) → g ≡ Got.Bytes k → Within g n → k ≤ n
-read_most g k n e h = subst (λ (f : Got). Within f n) e h
-
-pub fine : (w : Why) (n s e : ℕ) → w ≡ Why.Fine → is_refused w ≡ is_out_of n s e → (s ≤ e) × (e ≤ 65536)
-fine w n s e h q =
-    let g = good n s e (sym q ∙ ap is_refused h) in
-    (g.order, omega (arith, g.inside, g.limit))
 
 -- ---- parts
 

@@ -1,121 +1,94 @@
 // The program behind tools/manik-list: the listing of the image in a file, by the words IMAGE or IMAGE START END.
 #![tactic(auto)]
 
-mod image;
 mod messages;
 mod numbers;
 mod parts;
 mod ranges;
 
-use crate::image::{Got, read_all};
 use crate::messages::{say, say_failed, say_why};
 use crate::numbers::number;
 use crate::parts::write_listing;
-use crate::ranges::{Why, reason};
+use crate::ranges::Range;
+use reading::read_full;
+use saying::say_unwritten;
 use std::env::FillError;
 use std::io::{Error, ErrorKind};
 use std::rt::{Env, Files};
 use std::{fs, io, str};
-use text::Read;
 
 // What the words ask for.
 #[derive(Clone, Copy)]
 enum Call {
     Whole,
-    Range(u32, u32),
-    Bad,
+    Part(Range),
 }
 
-#[derive(Clone, Copy)]
-struct Range {
-    start: usize,
-    end: usize,
+impl Call {
+    fn range(self, length: usize) -> Range {
+        match self {
+            Call::Whole => Range::whole(length),
+            Call::Part(range) => range,
+        }
+    }
 }
 
 // START or END, by its place among the words.
-fn number_at(env: &impl Env, err: &impl Print, i: usize, name: &[u8]) -> Read {
-    let mut word = [0u8; 4096];
-    let Ok(n) = env.arg(i, &mut word) else {
-        say(err, name, b" is longer than 4096 bytes", b"");
-        return Read::Nothing;
+fn number_at(env: &impl Env, err: &impl Print, i: usize, name: &[u8]) -> Option<usize> {
+    let mut room = [0u8; 4096];
+    let Ok(n) = env.arg(i, &mut room) else {
+        say(err, &[name, b" is longer than 4096 bytes"]);
+        return None;
     };
-    let r = number(&word[..n]);
-    if let Read::Nothing = r {
+    let word = &room[..n];
+    let Some(number) = number(word) else {
         say(
             err,
-            name,
-            b" is no decimal or 0x hex number below 4294967296: ",
-            &word[..n],
+            &[
+                name,
+                b" is no decimal or 0x hex number below 4294967296: ",
+                word,
+            ],
         );
-    }
-    r
+        return None;
+    };
+    Some(number as usize)
 }
 
-fn range_asked(env: &impl Env, err: &impl Print) -> Call {
-    let Read::Number(start) = number_at(env, err, 2, b"START") else {
-        return Call::Bad;
-    };
-    let Read::Number(end) = number_at(env, err, 3, b"END") else {
-        return Call::Bad;
-    };
-    Call::Range(start, end)
+fn range_asked(env: &impl Env, err: &impl Print) -> Option<Range> {
+    let start = number_at(env, err, 2, b"START")?;
+    let end = number_at(env, err, 3, b"END")?;
+    Some(Range { start, end })
 }
 
 // A word that does not fit the room is there all the same.
 fn has_word(env: &impl Env, i: usize) -> bool {
     let mut room = [0u8; 1];
-    match env.arg(i, &mut room) {
-        Err(FillError::NotPresent) => false,
-        _ => true,
-    }
+    !matches!(env.arg(i, &mut room), Err(FillError::NotPresent))
 }
 
 // What the words after the program's name ask for.
-fn asked(env: &impl Env, err: &impl Print) -> Call {
+fn asked(env: &impl Env, err: &impl Print) -> Option<Call> {
     if has_word(env, 1) && !has_word(env, 2) {
-        return Call::Whole;
+        return Some(Call::Whole);
     }
     if has_word(env, 3) && !has_word(env, 4) {
-        return range_asked(env, err);
+        return range_asked(env, err).map(Call::Part);
     }
-    say(err, b"the words are IMAGE, or IMAGE START END", b"", b"");
-    Call::Bad
+    say(err, &[b"the words are IMAGE, or IMAGE START END"]);
+    None
 }
 
-// The whole image ends at its last even address.
-fn range_of(c: Call, length: usize) -> Range {
-    match c {
-        Call::Range(start, end) => Range {
-            start: start as usize,
-            end: end as usize,
-        },
-        _ => Range {
-            start: 0,
-            end: length / 2 * 2,
-        },
+fn list_image(to: &impl Print, err: &impl Print, image: &[u8], call: Call, file: &[u8]) {
+    let range = call.range(image.len());
+    match range.check(image.len()) {
+        Ok(()) => {
+            if let Err(e) = write_listing(to, image, range) {
+                say_unwritten(err, b"manik-list: standard output", e);
+            }
+        }
+        Err(why) => say_why(err, file, why, range, image.len()),
     }
-}
-
-fn list_image(to: &impl Print, err: &impl Print, image: &[u8], c: Call, file: &[u8]) {
-    let r = range_of(c, image.len());
-    let w = reason(image.len(), r.start, r.end);
-    match w {
-        Why::Fine => write_listing(to, err, image, r.start as u32, r.end),
-        Why::TooLong => say(err, file, b" is longer than 65536 bytes", b""),
-        _ => say_why(err, w, r.start, r.end, image.len()),
-    }
-}
-
-// As in messages.rt, the array is lent by way of a reference.
-fn list_room(
-    to: &impl Print,
-    err: &impl Print,
-    room: &[u8; 65537],
-    n: usize,
-    c: Call,
-    file: &[u8],
-) {
-    list_image(to, err, text::start_part(room, n), c, file);
 }
 
 // A path of std is text, so a file whose name is none is not opened.
@@ -126,37 +99,32 @@ fn open<R: Files>(rt: &R, file: &[u8]) -> io::Result<R::File> {
     fs::open(rt, path)
 }
 
+fn read_file(rt: &impl Files, file: &[u8], room: &mut [u8]) -> io::Result<usize> {
+    let mut image = open(rt, file)?;
+    read_full(&mut image, room)
+}
+
 // One byte more than an image has shows a file that is too long, however long it is.
-fn list_file(rt: &(impl Files + Print), err: &impl Print, file: &[u8], c: Call) {
-    let mut image = match open(rt, file) {
-        Ok(image) => image,
-        Err(e) => {
-            say_failed(err, file, e);
-            return;
-        }
-    };
+fn list_file(rt: &(impl Files + Print), err: &impl Print, file: &[u8], call: Call) {
     let mut room = [0u8; 65537];
-    let got = read_all(err, file, &mut image, &mut room);
-    match got {
-        Got::Bytes(n) => list_room(rt, err, &room, n, c, file),
-        Got::Failed => {}
+    match read_file(rt, file, &mut room) {
+        Ok(n) => list_image(rt, err, text::start_part(&room, n), call, file),
+        Err(e) => say_failed(err, file, e),
     }
 }
 
-fn list(rt: &(impl Env + Files + Print), err: &impl Print, c: Call) {
-    let mut word = [0u8; 4096];
-    let Ok(n) = rt.arg(1, &mut word) else {
-        say(err, b"IMAGE", b" is longer than 4096 bytes", b"");
+fn list(rt: &(impl Env + Files + Print), err: &impl Print, call: Call) {
+    let mut room = [0u8; 4096];
+    let Ok(n) = rt.arg(1, &mut room) else {
+        say(err, &[b"IMAGE", b" is longer than 4096 bytes"]);
         return;
     };
-    list_file(rt, err, &word[..n], c);
+    list_file(rt, err, &room[..n], call);
 }
 
 fn main(rt: HostRuntime) {
     let err = rt.stderr();
-    let c = asked(&rt, &err);
-    match c {
-        Call::Bad => {}
-        _ => list(&rt, &err, c),
+    if let Some(call) = asked(&rt, &err) {
+        list(&rt, &err, call);
     }
 }

@@ -3,8 +3,8 @@
 ghost use Rattle.std.specs.Prelude.{◌≡◌, ◌++◌, ◌≤◌, ◌<◌, length, take};
 ghost use Rattle.listing.specs.Listing.{listing_of};
 
-use crate::messages::fail;
-use std::io::ErrorKind;
+use crate::ranges::Range;
+use std::io;
 use word::ByteAddr;
 
 // So many bytes, and the address after their last line.
@@ -23,40 +23,23 @@ fn fill(out: &mut [u8], image: &[u8], start: u32, end: usize) -> Part
     let last = out.len() - 48;
     let mut at = start;
     let mut n: usize = 0;
-    while n <= last {
-        if end <= at as usize {
-            return Part { bytes: n, next: at };
-        }
+    while n <= last && (at as usize) < end {
         let line = listing::line_at(image, ByteAddr(at), end);
-        let text = line.text;
-        let next = line.next;
-        n = text::put_all(out, n, text::start_part(&text, line.length));
-        at = next.0;
+        n = text::put_all(out, n, text::start_part(&line.text, line.length));
+        at = line.next.0;
     }
     Part { bytes: n, next: at }
 }
 
-// Whether it is written. Whoever closed a pipe wants no more, and nothing is said.
-fn write_part(to: &impl Print, err: &impl Print, out: &[u8], n: usize) -> bool {
-    if let Err(e) = to.write_all(text::start_part(out, n)) {
-        if e.kind() != ErrorKind::BrokenPipe {
-            fail(err, b"manik-list: standard output", e);
-        }
-        return false;
-    }
-    true
-}
-
-pub fn write_listing(to: &impl Print, err: &impl Print, image: &[u8], start: u32, end: usize)
-    requires { (start ≤ end) × (end ≤ 65536) }
+pub fn write_listing(to: &impl Print, image: &[u8], range: Range) -> io::Result<()>
+    requires { (range.start ≤ range.end) × (range.end ≤ 65536) }
 {
     let mut out = [0u8; 4096];
-    let mut at = start;
-    while (at as usize) < end {
-        let p = fill(&mut out, image, at, end);
-        if !write_part(to, err, &out, p.bytes) {
-            return;
-        }
-        at = p.next;
+    let mut at = range.start as u32;
+    while (at as usize) < range.end {
+        let part = fill(&mut out, image, at, range.end);
+        to.write_all(text::start_part(&out, part.bytes))?;
+        at = part.next;
     }
+    Ok(())
 }

@@ -142,14 +142,6 @@ has_puts zero k i j b h = h
 has_puts (suc n) k i j b h = has_kept (put_marks n k i b) (i + n) j b (has_puts n k i j b h)
 
 -- one more, and none, as the code counts them
-pub any_more : (n : ℕ) (k : Marks) (i : ℕ) → any_mark (n + 1) k i ≡ (any_mark n k i || mark_at k (i + n))
-unfolding any_mark
-any_more n k i = rw add-one
-
-pub any_zero : (k : Marks) (i : ℕ) → any_mark 0 k i ≡ false
-unfolding any_mark
-any_zero k i = refl
-
 pub puts_more : (n : ℕ) (k : Marks) (i : ℕ) (b : Bool) → put_marks (n + 1) k i b ≡ mark_put (put_marks n k i b) (i + n) b
 unfolding put_marks
 puts_more n k i b = rw add-one

@@ -49,29 +49,19 @@ fn mark_sum(m: bool, tf: bool, cy: bool) -> Taint
 fn mark_two(mx: bool, my: bool, tf: bool, cy: bool) -> Taint
     ensures { result ≡ with (mx || my) (record { tf = tf; cy = cy }) }
 {
-    mark_reg(word::either(mx, my), tf, cy)
+    mark_reg(mx || my, tf, cy)
 }
 
+#[tactic(auto, unfolding(crate::specs::Marks::taint, crate::specs::Marks::alu_mark, crate::specs::Marks::alu_flags))]
 pub fn mark_alu(op: AluOp, mx: bool, my: bool, tf: bool, cy: bool) -> Taint
     ensures { result ≡ taint (Instr.Alu op 0 0) mx my false false (record { tf = tf; cy = cy }) }
 {
     match op {
-        AluOp::Sub => mark_sum(word::either(mx, my), tf, cy),
-        AluOp::Add => mark_sum(word::either(mx, my), tf, cy),
-        AluOp::Subc => mark_sum(word::either(word::either(mx, my), cy), tf, cy),
-        AluOp::Addc => mark_sum(word::either(word::either(mx, my), cy), tf, cy),
-        AluOp::Mov => mark_reg(my, tf, cy),
-        AluOp::And => mark_two(mx, my, tf, cy),
-        AluOp::Or => mark_two(mx, my, tf, cy),
-        AluOp::Xor => mark_two(mx, my, tf, cy),
-        AluOp::Sxb => mark_reg(my, tf, cy),
-        AluOp::Xhw => mark_reg(my, tf, cy),
-        AluOp::Sxh => mark_reg(my, tf, cy),
-        AluOp::Zxh => mark_reg(my, tf, cy),
-        AluOp::Lsl => mark_two(mx, my, tf, cy),
-        AluOp::Lsr => mark_two(mx, my, tf, cy),
-        AluOp::Asr => mark_two(mx, my, tf, cy),
-        AluOp::Mult => mark_two(mx, my, tf, cy),
+        AluOp::Sub | AluOp::Add => mark_sum(mx || my, tf, cy),
+        AluOp::Subc | AluOp::Addc => mark_sum(mx || my || cy, tf, cy),
+        AluOp::Mov | AluOp::Sxb | AluOp::Xhw | AluOp::Sxh | AluOp::Zxh => mark_reg(my, tf, cy),
+        AluOp::And | AluOp::Or | AluOp::Xor | AluOp::Mult => mark_two(mx, my, tf, cy),
+        AluOp::Lsl | AluOp::Lsr | AluOp::Asr => mark_two(mx, my, tf, cy),
     }
 }
 
@@ -85,13 +75,13 @@ pub fn mark_tf(m: bool, tf: bool, cy: bool) -> Taint
     }
 }
 
+#[tactic(auto, unfolding(crate::specs::Marks::cond_mark))]
 fn cond_sources(op: CondOp, mx: bool, my: bool) -> bool
     ensures { result ≡ cond_mark op mx my }
 {
     match op {
         CondOp::Mov => my,
-        CondOp::Sub => word::either(mx, my),
-        CondOp::Add => word::either(mx, my),
+        CondOp::Sub | CondOp::Add => mx || my,
     }
 }
 
@@ -101,27 +91,29 @@ pub fn mark_conditional(op: CondOp, wanted: bool, mx: bool, my: bool, tf: bool, 
 {
     let sources = cond_sources(op, mx, my);
     if wanted {
-        return mark_reg(word::either(tf, sources), tf, cy);
+        return mark_reg(tf || sources, tf, cy);
     }
-    mark_reg(word::either(tf, mx), tf, cy)
+    mark_reg(tf || mx, tf, cy)
 }
 
+#[tactic(auto, unfolding(crate::specs::Marks::taint, crate::specs::Marks::imm_mark))]
 pub fn mark_imm(op: ImmOp, mx: bool, tf: bool, cy: bool) -> Taint
     ensures { result ≡ taint (Instr.Imm op 0 0) mx false false false (record { tf = tf; cy = cy }) }
 {
     match op {
-        ImmOp::And => mark_reg(mx, tf, cy),
-        ImmOp::Add => mark_reg(mx, tf, cy),
+        ImmOp::And | ImmOp::Add => mark_reg(mx, tf, cy),
         ImmOp::Mov => mark_reg(false, tf, cy),
     }
 }
 
+#[tactic(auto, unfolding(crate::specs::Marks::sfr_mark))]
 pub fn is_sfr_marked(n: u32, tf: bool, cy: bool) -> bool
     ensures { result ≡ sfr_mark n (record { tf = tf; cy = cy }) }
 {
-    if n == 0 { word::either(tf, cy) } else { false }
+    n == 0 && (tf || cy)
 }
 
+#[tactic(auto, unfolding(crate::specs::Marks::taint))]
 pub fn mark_mtsfr(n: u32, tf: bool, cy: bool) -> Taint
     ensures { result ≡ taint (Instr.Mtsfr n 0) false false false false (record { tf = tf; cy = cy }) }
 {
@@ -134,46 +126,23 @@ pub fn mark_mtsfr(n: u32, tf: bool, cy: bool) -> Taint
 // ---- stop 14
 
 // A shift by register shows its amount in the time that it takes.
+#[tactic(auto, unfolding(crate::specs::Marks::alu_blocked))]
 pub fn is_alu_blocked(op: AluOp, my: bool) -> bool
     ensures { result ≡ alu_blocked op my }
 {
-    match op {
-        AluOp::Sub => false,
-        AluOp::Add => false,
-        AluOp::Subc => false,
-        AluOp::Addc => false,
-        AluOp::Mov => false,
-        AluOp::And => false,
-        AluOp::Or => false,
-        AluOp::Xor => false,
-        AluOp::Sxb => false,
-        AluOp::Xhw => false,
-        AluOp::Sxh => false,
-        AluOp::Zxh => false,
-        AluOp::Lsl => my,
-        AluOp::Lsr => my,
-        AluOp::Asr => my,
-        AluOp::Mult => false,
-    }
+    matches!(op, AluOp::Lsl | AluOp::Lsr | AluOp::Asr) && my
 }
 
+#[tactic(auto, unfolding(crate::specs::Marks::short_blocked))]
 pub fn is_short_blocked(op: ShortOp, tf: bool, cy: bool) -> bool
     ensures { result ≡ short_blocked op (record { tf = tf; cy = cy }) }
 {
-    match op {
-        ShortOp::Sjf => tf,
-        ShortOp::Sjt => tf,
-        ShortOp::Sj => false,
-    }
+    matches!(op, ShortOp::Sjf | ShortOp::Sjt) && tf
 }
 
+#[tactic(auto, unfolding(crate::specs::Marks::long_blocked))]
 pub fn is_long_blocked(op: LongOp, tf: bool, cy: bool) -> bool
     ensures { result ≡ long_blocked op (record { tf = tf; cy = cy }) }
 {
-    match op {
-        LongOp::Jf => tf,
-        LongOp::Jt => tf,
-        LongOp::J => false,
-        LongOp::Jl => false,
-    }
+    matches!(op, LongOp::Jf | LongOp::Jt) && tf
 }

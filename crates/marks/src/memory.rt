@@ -6,7 +6,7 @@ ghost use Rattle.marks.specs.Parts.{is_clear};
 
 use word::{ByteAddr, Width};
 
-// ---- one bit of a byte, by shift and mask
+// ---- one bit of a byte, by shift and mask: the project's rule for marks (docs/SENTENCES.md). `word::with_bit` replaces a field by division instead.
 
 fn is_set(b: u8, s: u32) -> bool
     requires { s < 8 }
@@ -32,10 +32,7 @@ fn is_marked_at(k: &[u8], i: usize) -> bool
     ensures { result ≡ mark_at (bits k.now) i }
 {
     let j = i / 8;
-    if j < k.len() {
-        return is_set(k[j], (i % 8) as u32);
-    }
-    false
+    j < k.len() && is_set(k[j], (i % 8) as u32)
 }
 
 fn put_mark_at(k: &mut [u8], i: usize, m: bool)
@@ -54,36 +51,23 @@ fn is_clear(k: &[u8], at: u32, n: u32) -> bool
     requires { n ≤ 8 }
     ensures { result ≡ is_clear n k.now at }
 {
-    if at % 8 + n <= 8 {
-        let j = (at / 8) as usize;
-        if j < k.len() {
-            return k[j] == 0;
-        }
-    }
-    false
+    let j = (at / 8) as usize;
+    at % 8 + n <= 8 && j < k.len() && k[j] == 0
 }
 
 fn any_one_by_one(k: &[u8], at: usize, n: usize) -> bool
     requires { at + n ≤ 18446744073709551616 }
     ensures { result ≡ any_mark n (bits k.now) at }
 {
-    let mut found = false;
-    let mut i: usize = 0;
-    while i < n {
-        found = word::either(found, is_marked_at(k, at + i));
-        i += 1;
-    }
-    found
+    (0..n).any(|i| is_marked_at(k, at + i))
 }
 
 fn put_one_by_one(k: &mut [u8], at: usize, n: usize, m: bool)
     requires { at + n ≤ 18446744073709551616 }
     ensures { bits k.new ≡ put_marks n (bits k.old) at m }
 {
-    let mut i: usize = 0;
-    while i < n {
+    for i in 0..n {
         put_mark_at(k, at + i, m);
-        i += 1;
     }
 }
 
@@ -101,10 +85,8 @@ fn put_marks(k: &mut [u8], at: u32, n: u32, m: bool)
     requires { n ≤ 8 }
     ensures { bits k.new ≡ put_marks n (bits k.old) at m }
 {
-    if !m {
-        if is_clear(k, at, n) {
-            return;
-        }
+    if !m && is_clear(k, at, n) {
+        return;
     }
     put_one_by_one(k, at as usize, n as usize, m)
 }
@@ -133,20 +115,12 @@ pub fn set_range(k: &mut [u8], at: ByteAddr, n: u32, m: bool)
 pub fn is_bad_room(n: usize, k: &[u8]) -> bool
     ensures { result ≡ bad_room n (bits k.now) }
 {
-    // Rounded up: n + 7 may be no number of this type.
-    let whole = n / 8;
-    if n % 8 == 0 {
-        return k.len() != whole;
-    }
-    k.len() != whole + 1
+    k.len() != n.div_ceil(8)
 }
 
 pub fn has_bad_mark(n: usize, k: &[u8]) -> bool
     ensures { result ≡ bad_mark n (bits k.now) }
 {
     let j = n / 8;
-    if j < k.len() {
-        return 0 < k[j] >> ((n % 8) as u32);
-    }
-    false
+    j < k.len() && 0 < k[j] >> ((n % 8) as u32)
 }

@@ -1,5 +1,6 @@
 -- No run of the machine without marks answers 12 or 14; so none with clean marks does.
 -- Assumes nothing.
+use Rattle.std.specs.Prelude.{Err, None, Ok, Option, Result as Fallible, Some}
 use Prim.Native.Nat.{ℕ, zero, suc, ◌+◌, ◌%◌}
 use mathlib.Core.Path.{◌≡◌, refl, ap, ◌∙◌}
 use mathlib.Core.Bool.{Bool, true, false, cond, not, ◌||◌}
@@ -19,14 +20,12 @@ use Rattle.instruction.specs.Act.{reach_of, outside}
 use Rattle.instruction.specs.Statements.{decoded_at}
 use Rattle.instruction.specs.declared.Reply.{Reply}
 use Rattle.instruction.specs.declared.Halt.{Halt}
-use Rattle.instruction.specs.declared.Fetched.{Fetched}
 use Rattle.instruction.specs.declared.Reach.{Reach}
 use Rattle.machine.specs.State.{out_of_form}
 use Rattle.machine.specs.Step.{chosen}
 use Rattle.machine.specs.Run.{Final, bad_length, run_of}
 use Rattle.machine.specs.declared.State.{State}
 use Rattle.machine.specs.declared.Event.{Event}
-use Rattle.machine.specs.declared.Judged.{Judged}
 use Rattle.plain.specs.Plain.{Core, value_of, reached, decoded, fetch, Outcome, stopped, completed, act, perform, on_fetched, on_event, step, Result, refusal, go_on, steps_from, unless_refused, run}
 use Rattle.plain.specs.Clean.{Clean, core_of}
 use Rattle.plain.proofs.Same.{run_same}
@@ -43,29 +42,29 @@ in_halt Halt.NoInstruction = false
 in_halt Halt.MarkedOperand = true
 in_halt Halt.DataOutside = false
 
-abbrev in_fetched : Fetched → Bool
-in_fetched (Fetched.Halted h) = in_halt h
-in_fetched (Fetched.Run i) = false
+abbrev in_fetched : Fallible Instr Halt → Bool
+in_fetched (Err h) = in_halt h
+in_fetched (Ok i) = false
 
 abbrev in_outcome : Outcome → Bool
 in_outcome (stopped r) = by_marks r
 in_outcome (completed s m) = false
 
-abbrev in_judged : Judged → Bool
-in_judged (Judged.Refused r) = by_marks r
-in_judged Judged.Good = false
+abbrev in_judged : Fallible Unit Reply → Bool
+in_judged (Err r) = by_marks r
+in_judged (Ok _) = false
 
 either : {A : Type 0} (f : A → Bool) (c : Bool) (x y : A) → f x ≡ false → f y ≡ false → f (cond c x y) ≡ false
 either f true x y p q = p
 either f false x y p q = q
 
-reached_fine : (a : ByteAddr) (m : List ℕ) (x : Fetched) → in_fetched x ≡ false → in_fetched (reached a m x) ≡ false
-reached_fine a m x e = either in_fetched (not (inside m a 2)) (Fetched.Halted Halt.FetchOutside) x refl e
+reached_fine : (a : ByteAddr) (m : List ℕ) (x : Fallible Instr Halt) → in_fetched x ≡ false → in_fetched (reached a m x) ≡ false
+reached_fine a m x e = either in_fetched (not (inside m a 2)) (Err Halt.FetchOutside) x refl e
 
-decoded_fine : (d : Decoded) (b : ByteAddr) (m : List ℕ) → in_fetched (decoded d b m) ≡ false
-decoded_fine (Decoded.Short i) b m = refl
-decoded_fine (Decoded.Long i) b m = reached_fine b m (Fetched.Run i) refl
-decoded_fine Decoded.Nothing b m = refl
+decoded_fine : (d : Option Decoded) (b : ByteAddr) (m : List ℕ) → in_fetched (decoded d b m) ≡ false
+decoded_fine (Some (Decoded.Short i)) b m = refl
+decoded_fine (Some (Decoded.Long i)) b m = reached_fine b m (Ok i) refl
+decoded_fine None b m = refl
 
 fetch_fine : (a : ByteAddr) (m : List ℕ) → in_fetched (fetch a m) ≡ false
 unfolding fetch
@@ -77,14 +76,14 @@ act_fine : (i : Instr) (x y : ℕ) (r : Reach) (s : Core) (m : List ℕ) → in_
 unfolding act
 act_fine i x y r s m = either in_outcome (outside r m) _ _ refl refl
 
-fetched_fine : (x : Fetched) (s : Core) (m : List ℕ) → in_fetched x ≡ false → in_outcome (on_fetched x s m) ≡ false
+fetched_fine : (x : Fallible Instr Halt) (s : Core) (m : List ℕ) → in_fetched x ≡ false → in_outcome (on_fetched x s m) ≡ false
 unfolding perform
-fetched_fine (Fetched.Halted Halt.FetchOutside) s m e = refl
-fetched_fine (Fetched.Halted Halt.FetchMarked) s m e = e
-fetched_fine (Fetched.Halted Halt.NoInstruction) s m e = refl
-fetched_fine (Fetched.Halted Halt.MarkedOperand) s m e = e
-fetched_fine (Fetched.Halted Halt.DataOutside) s m e = refl
-fetched_fine (Fetched.Run i) s m e =
+fetched_fine (Err Halt.FetchOutside) s m e = refl
+fetched_fine (Err Halt.FetchMarked) s m e = e
+fetched_fine (Err Halt.NoInstruction) s m e = refl
+fetched_fine (Err Halt.MarkedOperand) s m e = e
+fetched_fine (Err Halt.DataOutside) s m e = refl
+fetched_fine (Ok i) s m e =
     let y : ℕ = value_of s (sources_of i).second in
     act_fine i (value_of s (sources_of i).first) y (reach_of i y s.control) s m
 
@@ -116,9 +115,9 @@ refusal_fine b t s m =
     (either in_judged (ltb (length t) b) _ _ refl
     (either in_judged (any_above 63 (take b t)) _ _ refl refl)))
 
-unless_fine : (j : Judged) (b : ℕ) (t : List ℕ) (s : Core) (m : List ℕ) → in_judged j ≡ false → by_marks (unless_refused j b t s m).reply ≡ false
-unless_fine (Judged.Refused r) b t s m e = e
-unless_fine Judged.Good b t s m e = steps_fine b 0 t s m
+unless_fine : (j : Fallible Unit Reply) (b : ℕ) (t : List ℕ) (s : Core) (m : List ℕ) → in_judged j ≡ false → by_marks (unless_refused j b t s m).reply ≡ false
+unless_fine (Err r) b t s m e = e
+unless_fine (Ok _) b t s m e = steps_fine b 0 t s m
 
 run_fine : (b : ℕ) (t : List ℕ) (s : Core) (m : List ℕ) → by_marks (run b t s m).reply ≡ false
 unfolding run

@@ -1,5 +1,6 @@
 -- With nothing marked, each step and each run of the machine with marks is that of the machine without, beside the same marks.
 -- Assumes nothing.
+use Rattle.std.specs.Prelude.{Err, None, Ok, Option, Result as Fallible, Some}
 use Prim.Native.Nat.{ℕ, zero, suc, ◌+◌}
 use mathlib.Core.Path.{◌≡◌, refl, sym, ap₂, subst}
 use mathlib.Core.Bool.{Bool, true, false, cond, ◌&&◌}
@@ -26,7 +27,6 @@ use Rattle.instruction.specs.Act.{Val, reach_of, outside, loaded_from, act_of}
 use Rattle.instruction.specs.Statements.{decoded_at}
 use Rattle.instruction.specs.declared.Reply.{Reply}
 use Rattle.instruction.specs.declared.Halt.{Halt}
-use Rattle.instruction.specs.declared.Fetched.{Fetched}
 use Rattle.instruction.specs.declared.Reach.{Reach}
 use Rattle.instruction.specs.declared.Act.{Act}
 use Rattle.machine.specs.State.{value_at}
@@ -34,8 +34,6 @@ use Rattle.machine.specs.Step.{Stepped, stopped as halted, completed as made, ch
 use Rattle.machine.specs.Run.{Final, judge, go_on, steps_of, judged, run_of}
 use Rattle.machine.specs.declared.State.{State}
 use Rattle.machine.specs.declared.Event.{Event}
-use Rattle.machine.specs.declared.Data.{Data}
-use Rattle.machine.specs.declared.Judged.{Judged}
 use Rattle.machine.specs.declared.Line.{Line}
 use Rattle.plain.specs.Plain.{Core, reached, decoded, fetch, Outcome, stopped, completed, changed, enters, halts, act, perform, on_fetched, on_event, step, Result, refusal, steps_from, unless_refused, run, go_on as goOnPlain}
 use Rattle.plain.specs.Clean.{Clean, core_of, beside}
@@ -62,13 +60,13 @@ and_true true = refl
 and_true false = refl
 
 module _ (k : Marks) (z : (i : ℕ) → mark_at k i ≡ false) where
-  guarded_same : (a : ByteAddr) (m : List ℕ) (x : Fetched) → guarded a m k x ≡ reached a m x
+  guarded_same : (a : ByteAddr) (m : List ℕ) (x : Fallible Instr Halt) → guarded a m k x ≡ reached a m x
   guarded_same a m x = rw (marked_off k z Width.Half a)
 
-  found_same : (d : Decoded) (b : ByteAddr) (m : List ℕ) → found d b m k ≡ decoded d b m
-  found_same (Decoded.Short i) b m = refl
-  found_same (Decoded.Long i) b m = guarded_same b m (Fetched.Run i)
-  found_same Decoded.Nothing b m = refl
+  found_same : (d : Option Decoded) (b : ByteAddr) (m : List ℕ) → found d b m k ≡ decoded d b m
+  found_same (Some (Decoded.Short i)) b m = refl
+  found_same (Some (Decoded.Long i)) b m = guarded_same b m (Ok i)
+  found_same None b m = refl
 
   fetch_same : (a : ByteAddr) (m : List ℕ) → fetch_of a m k ≡ fetch a m
   unfolding fetch_of fetch
@@ -80,7 +78,7 @@ module _ (k : Marks) (z : (i : ℕ) → mark_at k i ≡ false) where
   unfolding changed entry_done entered entry_cost
   enters_same e c s m x p = rw (p, and_true (on s.control.psw 4), plus_zero (entry_cost e)) (goes _ _ _ _ _)
 
-  halts_same : (h : Halt) (a : Data) (s : Core) (m : List ℕ) → Agree s k (halt_step h a none s.control m k) (halts h s m)
+  halts_same : (h : Halt) (a : Option ByteAddr) (s : Core) (m : List ℕ) → Agree s k (halt_step h a none s.control m k) (halts h s m)
   unfolding onward with_pc
   halts_same Halt.FetchOutside a s m = enters_same Entry.FetchError s.control s m _ refl
   halts_same Halt.FetchMarked a s m = stops Reply.FetchMarked
@@ -88,7 +86,7 @@ module _ (k : Marks) (z : (i : ℕ) → mark_at k i ≡ false) where
   halts_same Halt.MarkedOperand a s m = stops Reply.MarkedOperand
   halts_same Halt.DataOutside a s m = enters_same Entry.DataError (onward 2 s.control) s m _ refl
 
-  does_same : (s : Core) (m : List ℕ) (u : Bool) (a : Data) (v : ℕ) (e : Effect) (r : Reach)
+  does_same : (s : Core) (m : List ℕ) (u : Bool) (a : Option ByteAddr) (v : ℕ) (e : Effect) (r : Reach)
       → Agree s k
       (act_step (cond u (Act.Halted Halt.DataOutside) (Act.Does e (with false none) r)) a (record { value = v; mark = false }) none s.control m k)
       (cond u (halts Halt.DataOutside s m) (completed (changed s e r) (stored_to r v m)))
@@ -96,7 +94,7 @@ module _ (k : Marks) (z : (i : ℕ) → mark_at k i ≡ false) where
   does_same s m true a v e r = halts_same Halt.DataOutside a s m
   does_same s m false a v e r = rw (marked_kept k z r) (goes _ _ _ _ _)
 
-  act_same : (i : Instr) (a : Data) (x y : Val) (s : Core) (m : List ℕ) → x.mark ≡ false → y.mark ≡ false
+  act_same : (i : Instr) (a : Option ByteAddr) (x y : Val) (s : Core) (m : List ℕ) → x.mark ≡ false → y.mark ≡ false
       → Agree s k (act_step (act_of i x y none s.control m k) a x none s.control m k)
       (act i x.value y.value (reach_of i y.value s.control) s m)
   unfolding act_of act
@@ -105,10 +103,10 @@ module _ (k : Marks) (z : (i : ℕ) → mark_at k i ≡ false) where
       rw (p, q, blocked_off i, loaded_off k z r, taint_off i (tf s.control))
       (does_same s m (outside r m) a x.value (exec i x.value y.value (loaded_from r m) s.control) r)
 
-  fetched_same : (x : Fetched) (s : Core) (m : List ℕ) → Agree s k (fetch_step x (unmarked s) m k) (on_fetched x s m)
+  fetched_same : (x : Fallible Instr Halt) (s : Core) (m : List ℕ) → Agree s k (fetch_step x (unmarked s) m k) (on_fetched x s m)
   unfolding instr_step perform
-  fetched_same (Fetched.Halted h) s m = halts_same h Data.Nowhere s m
-  fetched_same (Fetched.Run i) s m =
+  fetched_same (Err h) s m = halts_same h None s m
+  fetched_same (Ok i) s m =
       act_same i _ (value_at (unmarked s) (sources_of i).first) (value_at (unmarked s) (sources_of i).second) s m
       (reg_off (sources_of i).first)
       (reg_off (sources_of i).second)
@@ -140,10 +138,10 @@ module _ (k : Marks) (z : (i : ℕ) → mark_at k i ≡ false) where
   unfolding judge refusal
   judge_same b t s m e = rw (e, none_bad (length m) k z)
 
-  judged_same : (j : Judged) (b : ℕ) (t : List ℕ) (s : Core) (m : List ℕ)
+  judged_same : (j : Fallible Unit Reply) (b : ℕ) (t : List ℕ) (s : Core) (m : List ℕ)
       → judged j b t (unmarked s) m k ≡ beside (unless_refused j b t s m) (unmarked s) k
-  judged_same (Judged.Refused r) b t s m = refl
-  judged_same Judged.Good b t s m = steps_same b 0 t s m
+  judged_same (Err r) b t s m = refl
+  judged_same (Ok _) b t s m = steps_same b 0 t s m
 
   unmarked_same : (b : ℕ) (t : List ℕ) (s : Core) (m : List ℕ) → bad_room (length m) k ≡ false
       → run_of b t (unmarked s) m k ≡ beside (run b t s m) (unmarked s) k

@@ -4,7 +4,7 @@
 -- reaches (reach_of, outside, loaded_from, stored_to), and the tests of refusals 1, 4 and 6 (bad_length, out_of_form, any_above). What marks add is not here: no mark slice, no
 -- marks of registers and flags, and of the replies none of 2, 3, 12 and 14.
 -- Assumes nothing.
-use Rattle.std.specs.Prelude.{ℕ, zero, suc, ◌+◌, cond, not, ◌&&◌, List, ltb, length, get_or, set, take}
+use Rattle.std.specs.Prelude.{ℕ, zero, suc, ◌+◌, cond, not, ◌&&◌, List, ltb, length, get_or, set, take, Err, None, Ok, Option, Result as Fallible, Some}
 use Rattle.word.specs.Addresses.{is_odd}
 use Rattle.word.specs.Bits.{on}
 use Rattle.word.specs.Bytes.{inside, any_above}
@@ -23,13 +23,11 @@ use Rattle.instruction.specs.Fetch.{half_at, after_half}
 use Rattle.instruction.specs.Act.{reach_of, outside, loaded_from}
 use Rattle.instruction.specs.declared.Reply.{Reply}
 use Rattle.instruction.specs.declared.Halt.{Halt}
-use Rattle.instruction.specs.declared.Fetched.{Fetched}
 use Rattle.instruction.specs.declared.Reach.{Reach}
 use Rattle.machine.specs.State.{out_of_form}
 use Rattle.machine.specs.Step.{chosen, stored_to, entry_by}
 use Rattle.machine.specs.Run.{bad_length}
 use Rattle.machine.specs.declared.Event.{Event}
-use Rattle.machine.specs.declared.Judged.{Judged}
 
 -- The state: "sixteen registers of 32 bits", and the control part, which is the program counter, PSW, SFR 1 to 10 and "timer pending". Memory stands beside it.
 pub record Core : Type 0 where
@@ -42,18 +40,18 @@ value_of s i = get_or s.regs i 0
 
 -- ---- the fetch: "first half outside, .., not an instruction, second half outside, .."
 
-abbrev pub reached : ByteAddr → List ℕ → Fetched → Fetched
-reached a m x = cond (not (inside m a 2)) (Fetched.Halted Halt.FetchOutside) x
+abbrev pub reached : ByteAddr → List ℕ → Fallible Instr Halt → Fallible Instr Halt
+reached a m x = cond (not (inside m a 2)) (Err Halt.FetchOutside) x
 
-abbrev pub decoded : Decoded → ByteAddr → List ℕ → Fetched
-decoded (Decoded.Short i) b m = Fetched.Run i
-decoded (Decoded.Long i) b m = reached b m (Fetched.Run i)
-decoded Decoded.Nothing b m = Fetched.Halted Halt.NoInstruction
+abbrev pub decoded : Option Decoded → ByteAddr → List ℕ → Fallible Instr Halt
+decoded (Some (Decoded.Short i)) b m = Ok i
+decoded (Some (Decoded.Long i)) b m = reached b m (Ok i)
+decoded None b m = Err Halt.NoInstruction
 
 -- "A program counter found odd inside a run answers 13, before all these"
-unfoldable pub fetch : ByteAddr → List ℕ → Fetched
+unfoldable pub fetch : ByteAddr → List ℕ → Fallible Instr Halt
 fetch a m =
-    cond (is_odd a) (Fetched.Halted Halt.NoInstruction)
+    cond (is_odd a) (Err Halt.NoInstruction)
     (reached a m (decoded (decode_of (half_at m a) (half_at m (after_half a))) (after_half a) m))
 
 -- ---- one step
@@ -101,9 +99,9 @@ perform i s m =
     s
     m
 
-abbrev pub on_fetched : Fetched → Core → List ℕ → Outcome
-on_fetched (Fetched.Halted h) s m = halts h s m
-on_fetched (Fetched.Run i) s m = perform i s m
+abbrev pub on_fetched : Fallible Instr Halt → Core → List ℕ → Outcome
+on_fetched (Err h) s m = halts h s m
+on_fetched (Ok i) s m = perform i s m
 
 -- what is chosen: an entry or an instruction (document 01, "One step", 1 to 3)
 abbrev pub on_event : Event → Core → List ℕ → Outcome
@@ -127,13 +125,13 @@ abbrev pub result : Reply → ℕ → Core → List ℕ → Result
 result r n s m = record { reply = r; steps = n; core = s; mem = m }
 
 -- refusals 1, 4, 5 and 6, in this order; b is the budget, t the tape
-unfoldable pub refusal : ℕ → List ℕ → Core → List ℕ → Judged
+unfoldable pub refusal : ℕ → List ℕ → Core → List ℕ → Fallible Unit Reply
 refusal b t s m =
-    cond (bad_length (length m)) (Judged.Refused Reply.MemoryLength)
-    (cond (out_of_form s.control) (Judged.Refused Reply.Form)
-    (cond (ltb (length t) b) (Judged.Refused Reply.TapeLength)
-    (cond (any_above 63 (take b t)) (Judged.Refused Reply.TapeByte)
-    Judged.Good)))
+    cond (bad_length (length m)) (Err Reply.MemoryLength)
+    (cond (out_of_form s.control) (Err Reply.Form)
+    (cond (ltb (length t) b) (Err Reply.TapeLength)
+    (cond (any_above 63 (take b t)) (Err Reply.TapeByte)
+    (Ok tt))))
 
 -- n steps are completed, in state s and memory m, and the next one has this outcome
 unfoldable pub go_on : (Core → List ℕ → Result) → ℕ → Core → List ℕ → Outcome → Result
@@ -146,9 +144,9 @@ steps_from zero n t s m = result Reply.Budget n s m
 steps_from (suc b) n t s m = go_on (steps_from b (n + 1) t) n s m (step (get_or t n 0) s m)
 
 -- "Replies 1 to 6 return steps 0 and leave state, memory .. as given"
-abbrev pub unless_refused : Judged → ℕ → List ℕ → Core → List ℕ → Result
-unless_refused (Judged.Refused r) b t s m = result r 0 s m
-unless_refused Judged.Good b t s m = steps_from b 0 t s m
+abbrev pub unless_refused : Fallible Unit Reply → ℕ → List ℕ → Core → List ℕ → Result
+unless_refused (Err r) b t s m = result r 0 s m
+unless_refused (Ok _) b t s m = steps_from b 0 t s m
 
 unfoldable pub run : ℕ → List ℕ → Core → List ℕ → Result
 run b t s m = unless_refused (refusal b t s m) b t s m

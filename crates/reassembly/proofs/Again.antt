@@ -1,5 +1,6 @@
 -- The answer for a listing that is assembled again, and the image after it.
 -- Assumes nothing.
+use Rattle.std.specs.Prelude.{Ok}
 use Prim.Native.Nat.{ℕ, ◌+◌, ◌-◌, ◌%◌, ◌≤◌}
 use mathlib.Core.Path.{◌≡◌, sym, ap, ap₂, ◌∙◌}
 use mathlib.Core.Bool.{false}
@@ -19,7 +20,7 @@ use Rattle.columns.proofs.Theorems.{bits_give_back, bits_second}
 use Rattle.expr.specs.Expr.{Labels, none}
 use Rattle.forms.specs.Form.{lines_of}
 use Rattle.asm.specs.Assemble.{address_of, labels_of, code_of, text_labels, answered, verdict_of, verdict_in, assembled_of}
-use Rattle.asm.specs.declared.Assembled.{Assembled}
+use Rattle.asm.specs.Assemble.{Assembled}
 use Rattle.reassembly.specs.Lines.{text_for}
 use Rattle.reassembly.proofs.Entries.{lines_for, lines_of_lem}
 use Rattle.reassembly.proofs.Whole.{address_of_lem, labels_none, verdict_done, code_bytes}
@@ -63,7 +64,7 @@ module _ (m : List ℕ) (s e : ℕ) (bytes : Bytes m) (ok : is_out_of (length m)
   pub labels_are : text_labels text s ≡ none
   labels_are = ap₂ (labels_of none) start lines ∙ labels_none m bytes e low g.end s g.order g.start none
 
-  pub verdict_is : (n : ℕ) → e ≤ n → verdict_in text s n ≡ Assembled.Done (length (entries_in m s e)) e
+  pub verdict_is : (n : ℕ) → e ≤ n → verdict_in text s n ≡ Ok (length (entries_in m s e), e)
   unfolding verdict_in
   verdict_is n h =
       let p = g.start in
@@ -71,7 +72,7 @@ module _ (m : List ℕ) (s e : ℕ) (bytes : Bytes m) (ok : is_out_of (length m)
       let z : 0 + length (entries_in m s e) ≡ length (entries_in m s e) = omega arith in
       rw (ne_eqb (s % 2) 1 (λ q. omega arith), le-ltb n s (omega arith))
       (ap (verdict_of (text_labels text s) [] s n 0) lines
-      ∙ verdict_done m bytes e low g.end s o p (text_labels text s) [] n h 0 ∙ ap (λ (k : ℕ). Assembled.Done k e) z)
+      ∙ verdict_done m bytes e low g.end s o p (text_labels text s) [] n h 0 ∙ ap (λ (k : ℕ). Ok (k, e)) z)
 
   listed_length : s + length (take (e - s) (drop s m)) ≡ e
   listed_length =
@@ -82,12 +83,12 @@ module _ (m : List ℕ) (s e : ℕ) (bytes : Bytes m) (ok : is_out_of (length m)
       omega arith
 
   pub assembled_is : (n : List ℕ) → e ≤ length n
-      → assembled_of text s n ≡ answered (Assembled.Done (length (entries_in m s e)) e) (take s n ++ (take (e - s) (drop s m) ++ drop e n))
+      → assembled_of text s n ≡ answered (Ok (length (entries_in m s e), e)) (take s n ++ (take (e - s) (drop s m) ++ drop e n))
   unfolding assembled_of
   assembled_is n h =
       rw (verdict_is (length n) h, code_is (text_labels text s))
-      (ap (answered (Assembled.Done (length (entries_in m s e)) e)) (put_in (take (e - s) (drop s m)) n s e listed_length h))
+      (ap (answered (Ok (length (entries_in m s e), e))) (put_in (take (e - s) (drop s m)) n s e listed_length h))
 
-  pub assembled_again : assembled_of text s m ≡ answered (Assembled.Done (length (entries_in m s e)) e) m
+  pub assembled_again : assembled_of text s m ≡ answered (Ok (length (entries_in m s e), e)) m
   assembled_again =
-      assembled_is m g.inside ∙ ap (answered (Assembled.Done (length (entries_in m s e)) e)) (parts m s e g.order)
+      assembled_is m g.inside ∙ ap (answered (Ok (length (entries_in m s e), e))) (parts m s e g.order)

@@ -1,5 +1,6 @@
 -- Each kind of instruction, written and assembled again.
 -- Assumes nothing.
+use Rattle.std.specs.Prelude.{None, Option, Some}
 use Prim.Native.Nat.{ℕ, ◌+◌, ◌*◌, ◌%◌, ◌^◌, ◌<◌}
 use mathlib.Core.Path.{◌≡◌, refl, subst}
 use mathlib.Core.Bool.{Bool, true, false, ◌&&◌}
@@ -40,10 +41,10 @@ use Rattle.reassembly.proofs.Targets.{jump_not, jump_back, signed_not, word_not,
 use Rattle.reassembly.proofs.Shapes.{Back, register, sfr, low_sfr, sum, number_says, back_one, back_two, back_three}
 
 module _ (t : Labels) (a : ByteAddr) (nm : List ℕ) (hn : is_plain nm ≡ true) where
-  abbrev row : Kind → Row → Encoded → Type 0
+  abbrev row : Kind → Row → Option Encoded → Type 0
   row k r d = Back t a (What.Code k) (9 ∷ (nm ++ row_text r)) (number_in r) d
 
-  abbrev said : Kind → ℕ → ℕ → ℕ → ℕ → Encoded
+  abbrev said : Kind → ℕ → ℕ → ℕ → ℕ → Option Encoded
   said k x y z v = bits_said (says_of k a x y z v)
 
   -- by the sorts of their operands
@@ -102,10 +103,10 @@ module _ (t : Labels) (a : ByteAddr) (nm : List ℕ) (hn : is_plain nm ≡ true)
 
   -- ---- by kind
 
-  abbrev pub BackIf : Kind → Decoded → Type 0
-  BackIf k (Decoded.Short i) = row k (row_of a i) (encode_of i)
-  BackIf k (Decoded.Long i) = row k (row_of a i) (encode_of i)
-  BackIf k Decoded.Nothing = Unit {0}
+  abbrev pub BackIf : Kind → Option Decoded → Type 0
+  BackIf k (Some (Decoded.Short i)) = row k (row_of a i) (encode_of i)
+  BackIf k (Some (Decoded.Long i)) = row k (row_of a i) (encode_of i)
+  BackIf k None = Unit {0}
 
   if_back : (b : Bool) (k : Kind) (i : Instr) → (b ≡ true → row k (row_of a i) (encode_of i)) → BackIf k (short_if b i)
   if_back true k i f = f refl

@@ -1,5 +1,6 @@
 -- Words of digits are read whole.
 -- Assumes nothing.
+use Rattle.std.specs.Prelude.{Some, Ok}
 use Prim.Native.Nat.{ℕ, zero, suc, ◌+◌, ◌/◌, ◌%◌, ◌^◌, ◌<◌, ◌≤◌}
 use mathlib.Core.Path.{◌≡◌, refl, ap, ◌∙◌}
 use mathlib.Core.Bool.{Bool, true, false, cond, ◌&&◌, ◌||◌}
@@ -11,13 +12,12 @@ use lib.Seq.{take-length}
 use borrow.Author.Tests.{ltb-true, ltb-false, lt-ltb, le-leb, leb-true, lt-leb, ne_eqb}
 use Rattle.isa.proofs.Rows.{and_left, and_right}
 use Rattle.text.specs.Digits.{glyph_of, digits_read, digits_of, zeros_of, leading_zero, decimal_text, half_text}
-use Rattle.text.specs.declared.Read.{Read as Digits}
 use Rattle.text.specs.Words.{ascii}
 use Rattle.text.proofs.Theorems.{digits_length, read_decimal, read_written, unled, decimal_some}
 use Rattle.listing.proofs.Laws.{half_digits}
 use Rattle.expr.specs.Expr.{Labels, is_letter, is_digit, run_of, is_hex, counted, word_read, leaf_of}
 use Rattle.expr.specs.Value.{written}
-use Rattle.expr.specs.declared.Read.{Read}
+use Rattle.expr.specs.Expr.{Read}
 use Rattle.columns.proofs.Plain.{both}
 
 -- ---- decimal digits
@@ -76,8 +76,8 @@ unfolding are_digits
 digit_first [] e h = absurd (omega arith)
 digit_first (c ∷ l) e h = digit_low c (and_left (is_digit c) (are_digits l) e)
 
-word_digits : (t : Labels) (l : List ℕ) (v : ℕ) → are_digits l ≡ true → 0 < length l → leading_zero l ≡ false → digits_read 10 0 l ≡ Digits.Number v
-    → word_read t l ≡ Read.Got (written v) (length l)
+word_digits : (t : Labels) (l : List ℕ) (v : ℕ) → are_digits l ≡ true → 0 < length l → leading_zero l ≡ false → digits_read 10 0 l ≡ Some v
+    → word_read t l ≡ Ok (written v, length l)
 unfolding word_read counted
 word_digits t l v e h z r =
     let a = digit_at l 0 e in
@@ -95,7 +95,7 @@ pub leaf_whole : (t : Labels) (l : List ℕ) → run_of l ≡ length l → leaf_
 unfolding leaf_of
 leaf_whole t l e = rw e (ap (word_read t) (take-length l))
 
-pub leaf_decimal : (t : Labels) (n : ℕ) → n < 10 ^ 20 → leaf_of t (decimal_text n) ≡ Read.Got (written n) (length (decimal_text n))
+pub leaf_decimal : (t : Labels) (n : ℕ) → n < 10 ^ 20 → leaf_of t (decimal_text n) ≡ Ok (written n, length (decimal_text n))
 leaf_decimal t n h =
     leaf_whole t (decimal_text n) (run_digits (decimal_text n) (decimal_digits n))
     ∙ word_digits t (decimal_text n) n (decimal_digits n) (decimal_some n) (unled (digits_of 10 20 n)) (read_decimal n h)
@@ -128,7 +128,7 @@ run_half h =
       glyph_named (h % 16) (omega arith),
     )
 
-pub leaf_half : (t : Labels) (h : ℕ) → h < 65536 → leaf_of t (hex_word h) ≡ Read.Got (written h) (length (hex_word h))
+pub leaf_half : (t : Labels) (h : ℕ) → h < 65536 → leaf_of t (hex_word h) ≡ Ok (written h, length (hex_word h))
 unfolding word_read counted
 leaf_half t h l =
     let w : length (half_text h) ≡ 4 = digits_length 16 4 h in

@@ -1,5 +1,6 @@
 -- A line of a listing as the assembler reads it: its form, its value, its bits, and no refusal.
 -- Assumes nothing.
+use Rattle.std.specs.Prelude.{Result, Some}
 use Prim.Native.Nat.{ℕ, ◌/◌, ◌%◌, ◌<◌}
 use mathlib.Core.Path.{◌≡◌, refl, sym, ap, ap₂, ◌∙◌}
 use mathlib.Core.Bool.{Bool, true, false, cond}
@@ -22,10 +23,10 @@ use Rattle.forms.specs.Form.{lines_of, body_of, field_at, is_label, named, what_
 use Rattle.forms.specs.Says.{bytes_in}
 use Rattle.asm.specs.Assemble.{line_value, line_bits, label_in, label_check, fit_check, before, value_check, line_check, value_in, line_bytes}
 use Rattle.forms.specs.declared.What.{What}
-use Rattle.asm.specs.declared.Checked.{Checked}
 use Rattle.reassembly.specs.Lines.{body_for, line_for, what_shown, number_in, bits_listed, Read}
 use Rattle.reassembly.proofs.Fields.{body_of_lem, ended_by, field_label, is_one, one_append, one_plain, one_tab, lines_more, lines_none}
 use Rattle.reassembly.proofs.Line.{Line, second_low, line_at}
+use Rattle.asm.specs.declared.Refusal.{Refusal}
 
 -- ---- lines are parted by their newlines
 
@@ -107,13 +108,13 @@ module _ (m : List ℕ) (a : ByteAddr) (e : ℕ) (bytes : Bytes m) (low : a.0 < 
       rw r.valued (ap bytes_in r.bits)
 
   -- no check refuses it
-  pub line_check_lem : (t : Labels) (s : List ℕ) (y : Checked) → line_check t s a y (what_in l) l ≡ y
+  pub line_check_lem : (t : Labels) (s : List ℕ) (y : Result Unit Refusal) → line_check t s a y (what_in l) l ≡ y
   unfolding line_check value_check label_check
   line_check_lem t s y =
       let r = line_read t in
       rw (line_known, line_label, r.valued, r.bits) (go x.shown.long)
     where
-      go : (b : Bool) → before (fit_check (cond b (Encoded.Pair x.first x.second) (Encoded.Half x.first))) y ≡ y
+      go : (b : Bool) → before (fit_check (cond b (Some (Encoded.Pair x.first x.second)) (Some (Encoded.Half x.first)))) y ≡ y
       go true = refl
       go false = refl
 
@@ -122,7 +123,7 @@ module _ (m : List ℕ) (a : ByteAddr) (e : ℕ) (bytes : Bytes m) (low : a.0 < 
   unfolding bytes_in
   bits_read r = go x.shown.long
     where
-      go : (b : Bool) → bytes_read ((half_text x.first ++ second_text b x.second) ++ r) ≡ bytes_in (cond b (Encoded.Pair x.first x.second) (Encoded.Half x.first)) ++ bytes_read r
+      go : (b : Bool) → bytes_read ((half_text x.first ++ second_text b x.second) ++ r) ≡ bytes_in (cond b (Some (Encoded.Pair x.first x.second)) (Some (Encoded.Half x.first))) ++ bytes_read r
       go true =
           ap bytes_read (append_assoc (half_text x.first) (half_text x.second) r)
           ∙ half_read x.first (half_text x.second ++ r) first_lt

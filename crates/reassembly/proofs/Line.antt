@@ -1,5 +1,6 @@
 -- One line of a listing, assembled again.
 -- Assumes nothing.
+use Rattle.std.specs.Prelude.{None, Option, Some}
 use Prim.Native.Nat.{ℕ, ◌/◌, ◌<◌}
 use mathlib.Core.Path.{◌≡◌, refl, sym, ap, subst, ◌∙◌}
 use mathlib.Core.Bool.{Bool, true, false, cond, ◌&&◌}
@@ -44,10 +45,10 @@ use Rattle.reassembly.proofs.ByKind.{BackIf, back}
 
 -- ---- the bytes that a kind takes
 
-abbrev SizeIf : Kind → Decoded → Type 0
-SizeIf k (Decoded.Short i) = (kind_shape k).size ≡ 2
-SizeIf k (Decoded.Long i) = (kind_shape k).size ≡ 4
-SizeIf k Decoded.Nothing = Unit {0}
+abbrev SizeIf : Kind → Option Decoded → Type 0
+SizeIf k (Some (Decoded.Short i)) = (kind_shape k).size ≡ 2
+SizeIf k (Some (Decoded.Long i)) = (kind_shape k).size ≡ 4
+SizeIf k None = Unit {0}
 
 if_size : (b : Bool) (k : Kind) (i : Instr) → (kind_shape k).size ≡ 2 → SizeIf k (short_if b i)
 if_size true k i e = e
@@ -93,8 +94,8 @@ body_by x = 9 ∷ (name_at x.place ++ row_text x.row)
 abbrev pub what_by : ℕ → Shown → What
 what_by h x = cond (eqb x.place half_place) What.Half (What.Code (kind_of (h / 256)))
 
-abbrev pub bits_by : ℕ → ℕ → Shown → Encoded
-bits_by h s x = cond x.long (Encoded.Pair h s) (Encoded.Half h)
+abbrev pub bits_by : ℕ → ℕ → Shown → Option Encoded
+bits_by h s x = cond x.long (Some (Encoded.Pair h s)) (Some (Encoded.Half h))
 
 pub record Line (t : Labels) (a : ByteAddr) (h s : ℕ) (x : Shown) : Type 0 where
   pub what : what_of (body_by x) ≡ what_by h x
@@ -120,7 +121,7 @@ module _ (t : Labels) (a : ByteAddr) (low : a.0 < 65536) (h s : ℕ) (hh : h < 6
     not_half_here = ne_eqb (place_of (h / 256)) half_place (not_half h s hh some)
 
     code : (i : Instr) (b : Bool) → (shape_of (What.Code k)).size ≡ cond b 4 2
-        → Back t a (What.Code k) (9 ∷ (name_at (place_of (h / 256)) ++ row_text (row_of a i))) (number_in (row_of a i)) (cond b (Encoded.Pair h s) (Encoded.Half h))
+        → Back t a (What.Code k) (9 ∷ (name_at (place_of (h / 256)) ++ row_text (row_of a i))) (number_in (row_of a i)) (cond b (Some (Encoded.Pair h s)) (Some (Encoded.Half h)))
         → Line t a h s (record { long = b; place = place_of (h / 256); row = row_of a i })
     code i b e f =
         made (record { long = b; place = place_of (h / 256); row = row_of a i }) (What.Code k) (rw not_half_here)
@@ -129,7 +130,7 @@ module _ (t : Labels) (a : ByteAddr) (low : a.0 < 65536) (h s : ℕ) (hh : h < 6
   abbrev nm : List ℕ
   nm = name_at (place_of (h / 256))
 
-  came : (d : Decoded) → Shows h s d → (size_of d ≡ 0 → ⊥) → d ≡ decode_of h s
+  came : (d : Option Decoded) → Shows h s d → (size_of d ≡ 0 → ⊥) → d ≡ decode_of h s
   came d (whole e) f = e
   came d (cut e) f = absurd (f (ap size_of e))
 
@@ -147,26 +148,26 @@ module _ (t : Labels) (a : ByteAddr) (low : a.0 < 65536) (h s : ℕ) (hh : h < 6
   unfolding decode_of
   size_here = sized h s k
 
-  half_back : Back t a What.Half (9 ∷ (name_at half_place ++ row_text (Row.One (Operand.Bits h)))) h (Encoded.Half h)
+  half_back : Back t a What.Half (9 ∷ (name_at half_place ++ row_text (Row.One (Operand.Bits h)))) h (Some (Encoded.Half h))
   unfolding shape_of sum_at bits_at bits_of
   half_back =
       let f = bits_says h hh in
-      back_one t a What.Half (Encoded.Half h) (name_at half_place) (plain_name half_place) 2 (pos h) (length (field_text (Operand.Bits h))) h refl
+      back_one t a What.Half (Some (Encoded.Half h)) (name_at half_place) (plain_name half_place) 2 (pos h) (length (field_text (Operand.Bits h))) h refl
       (Operand.Bits h) Sort.Sum 0 (sum _ _ f) refl (says_value _ _ f t) (rw (lt-ltb h 65536 hh))
 
-  pub line : (d : Decoded) → Shows h s d → Line t a h s (shown_of a h d)
+  pub line : (d : Option Decoded) → Shows h s d → Line t a h s (shown_of a h d)
   unfolding shown_of shape_of
-  line (Decoded.Short i) u =
-      let p = came (Decoded.Short i) u two in
+  line (Some (Decoded.Short i)) u =
+      let p = came (Some (Decoded.Short i)) u two in
       code (λ z. two (ap size_of p ∙ z)) i false (subst (SizeIf k) (sym p) size_here)
       (subst (Back t a (What.Code k) (9 ∷ (nm ++ row_text (row_of a i))) (number_in (row_of a i))) (short_encodes h s i hh hs (sym p))
       (subst (BackIf t a nm (plain_name (place_of (h / 256))) k) (sym p) here))
-  line (Decoded.Long i) u =
-      let p = came (Decoded.Long i) u four in
+  line (Some (Decoded.Long i)) u =
+      let p = came (Some (Decoded.Long i)) u four in
       code (λ z. four (ap size_of p ∙ z)) i true (subst (SizeIf k) (sym p) size_here)
       (subst (Back t a (What.Code k) (9 ∷ (nm ++ row_text (row_of a i))) (number_in (row_of a i))) (long_encodes h s i hh hs (sym p))
       (subst (BackIf t a nm (plain_name (place_of (h / 256))) k) (sym p) here))
-  line Decoded.Nothing u =
+  line None u =
       made (record { long = false; place = half_place; row = Row.One (Operand.Bits h) }) What.Half refl
       (names_what half_place (Row.One (Operand.Bits h)) What.Half half_named) refl half_back
 

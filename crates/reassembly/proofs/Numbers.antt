@@ -1,5 +1,6 @@
 -- Numbers, as a listing writes them, are expressions that have their values.
 -- Assumes nothing.
+use Rattle.std.specs.Prelude.{Ok}
 use Prim.Native.Nat.{ℕ, suc, ◌-◌, ◌^◌, ◌<◌}
 use mathlib.Core.Path.{◌≡◌, refl, sym, ap, ◌∙◌}
 use mathlib.Core.Bool.{Bool, true, false, cond}
@@ -13,7 +14,7 @@ use borrow.Author.Tests.{ltb-true, ltb-false, lt-ltb, le-ltb, eq-eqb, ne_eqb}
 use Rattle.text.specs.Digits.{decimal_text, signed_text}
 use Rattle.expr.specs.Expr.{Labels, none, is_whole, is_sum, leaf_of, sign_of, signed_of, operand_of, sum_of, value_of, operand_with, product_with, sum_with, inside_of, adds, multiplies}
 use Rattle.expr.specs.Value.{fitted, applied, combined, negated, signed_word, written}
-use Rattle.expr.specs.declared.Read.{Read}
+use Rattle.expr.specs.Expr.{Read}
 use Rattle.expr.specs.declared.Value.{Value}
 use Rattle.text.proofs.Theorems.{decimal_some}
 use Rattle.expr.proofs.Laws.{items_all, operand_leaf}
@@ -21,7 +22,7 @@ use Rattle.forms.specs.Says.{bits_of}
 use Rattle.reassembly.proofs.Digits.{decimal_digits, digit_first, leaf_decimal, leaf_half, hex_word}
 
 -- an operand that is all of its text is a sum
-pub all_sum : (t : Labels) (more : ℕ) (s : List ℕ) (v : Value) → operand_of t more s ≡ Read.Got v (length s) → sum_of t more s ≡ Read.Got v (length s)
+pub all_sum : (t : Labels) (more : ℕ) (s : List ℕ) (v : Value) → operand_of t more s ≡ Ok (v, length s) → sum_of t more s ≡ Ok (v, length s)
 unfolding sum_of sum_with product_with operand_of
 all_sum t more s v e =
     items_all adds (product_with (inside_of t more) t) s v (length s) (omega arith)
@@ -30,13 +31,13 @@ all_sum t more s v e =
 -- ---- a text that every table of labels reads alike
 
 abbrev pub Says : List ℕ → ℤ → Type 0
-Says s z = (t : Labels) (more : ℕ) → sum_of t more s ≡ Read.Got (Value.Is z) (length s)
+Says s z = (t : Labels) (more : ℕ) → sum_of t more s ≡ Ok (Value.Is z, length s)
 
 pub says_sum : (s : List ℕ) (z : ℤ) → Says s z → is_sum s ≡ true
 unfolding is_sum is_whole
 says_sum s z f = rw (f none (length s)) (eq-eqb (length s) (length s) refl)
 
-pub says_value : (s : List ℕ) (z : ℤ) → Says s z → (t : Labels) → value_of t s ≡ Read.Got (Value.Is z) (length s)
+pub says_value : (s : List ℕ) (z : ℤ) → Says s z → (t : Labels) → value_of t s ≡ Ok (Value.Is z, length s)
 unfolding value_of
 says_value s z f t = f t 8
 
@@ -47,8 +48,8 @@ unfolding written
 written_is n h = rw (le-ltb 2147483647 n (omega arith))
 
 -- a leaf with no sign
-unsigned : (t : Labels) (more : ℕ) (s : List ℕ) (v : Value) → (get_or s 0 0 ≡ 45 → ⊥) → (get_or s 0 0 ≡ 40 → ⊥) → leaf_of t s ≡ Read.Got v (length s)
-    → operand_of t more s ≡ Read.Got v (length s)
+unsigned : (t : Labels) (more : ℕ) (s : List ℕ) (v : Value) → (get_or s 0 0 ≡ 45 → ⊥) → (get_or s 0 0 ≡ 40 → ⊥) → leaf_of t s ≡ Ok (v, length s)
+    → operand_of t more s ≡ Ok (v, length s)
 unfolding sign_of signed_of
 unsigned t more s v f g e =
     operand_leaf t s more 0 (get_or s 0 0) (sym (rw (ne_eqb (get_or s 0 0) 45 f))) refl g ∙ rw e
@@ -58,13 +59,13 @@ says_decimal n h t more =
     let a = digit_first (decimal_text n) (decimal_digits n) (decimal_some n) in
     all_sum t more (decimal_text n) (Value.Is (pos n))
     (unsigned t more (decimal_text n) (Value.Is (pos n)) (λ q. omega arith) (λ q. omega arith)
-    (leaf_decimal t n (omega arith) ∙ ap (λ (v : Value). Read.Got v (length (decimal_text n))) (written_is n h)))
+    (leaf_decimal t n (omega arith) ∙ ap (λ (v : Value). Ok (v, length (decimal_text n))) (written_is n h)))
 
 pub says_half : (h : ℕ) → h < 65536 → Says (hex_word h) (pos h)
 says_half h l t more =
     all_sum t more (hex_word h) (Value.Is (pos h))
     (unsigned t more (hex_word h) (Value.Is (pos h)) (λ q. omega arith) (λ q. omega arith)
-    (leaf_half t h l ∙ ap (λ (v : Value). Read.Got v (length (hex_word h))) (written_is h (omega arith))))
+    (leaf_half t h l ∙ ap (λ (v : Value). Ok (v, length (hex_word h))) (written_is h (omega arith))))
 
 -- ---- a minus
 

@@ -1,5 +1,6 @@
 -- Lines of one, two and three operands: their form, their value and their bits.
 -- Assumes nothing.
+use Rattle.std.specs.Prelude.{Option, Ok}
 use Prim.Native.Nat.{ℕ, ◌<◌, ◌^◌}
 use mathlib.Core.Path.{◌≡◌, refl, sym, subst}
 use mathlib.Core.Bool.{true}
@@ -19,7 +20,7 @@ use Rattle.columns.proofs.Plain.{is_plain}
 use Rattle.columns.proofs.Bits.{field_text, operand_tab, plain_field}
 use Rattle.expr.specs.Expr.{Labels}
 use Rattle.expr.specs.Value.{signed_word}
-use Rattle.expr.specs.declared.Read.{Read as Valued}
+use Rattle.expr.specs.Expr.{Read as Valued}
 use Rattle.expr.specs.declared.Value.{Value}
 use Rattle.forms.specs.Form.{field_at, shape, shape_of, numbered_of, number_at, is_of, fields_of, fits_shape}
 use Rattle.forms.specs.Says.{bits_of, bits_at}
@@ -76,15 +77,15 @@ bits_says h l = says_half h l
 -- ---- lines
 
 -- a line without its newline, that names w, has the value v and the bits x at a
-pub record Back (t : Labels) (a : ByteAddr) (w : What) (b : List ℕ) (v : ℕ) (x : Encoded) : Type 0 where
+pub record Back (t : Labels) (a : ByteAddr) (w : What) (b : List ℕ) (v : ℕ) (x : Option Encoded) : Type 0 where
   pub fits : fits_shape (shape_of w) b ≡ true
   pub value : ℤ
   pub size : ℕ
-  pub valued : line_value t (shape_of w) b ≡ Valued.Got (Value.Is value) size
+  pub valued : line_value t (shape_of w) b ≡ Ok (Value.Is value, size)
   pub number : bits_of value ≡ v
   pub bits : line_bits w a b value ≡ x
 
-module _ (t : Labels) (a : ByteAddr) (w : What) (d : Encoded) (nm : List ℕ) (hn : is_plain nm ≡ true) (n : ℕ) (z : ℤ) (size i : ℕ) (hz : bits_of z ≡ i) where
+module _ (t : Labels) (a : ByteAddr) (w : What) (d : Option Encoded) (nm : List ℕ) (hn : is_plain nm ≡ true) (n : ℕ) (z : ℤ) (size i : ℕ) (hz : bits_of z ≡ i) where
   abbrev pub body : Row → List ℕ
   body r = 9 ∷ (nm ++ row_text r)
 
@@ -93,7 +94,7 @@ module _ (t : Labels) (a : ByteAddr) (w : What) (d : Encoded) (nm : List ℕ) (h
     unfolding row_text
     one_row = sym (rw (operand_tab x))
 
-    pub back_one : shape_of w ≡ shape n sx Sort.Nothing Sort.Nothing → sum_at t sx (field_text x) zero_read ≡ Valued.Got (Value.Is z) size
+    pub back_one : shape_of w ≡ shape n sx Sort.Nothing Sort.Nothing → sum_at t sx (field_text x) zero_read ≡ Ok (Value.Is z, size)
         → bits_at w a u 0 0 i ≡ d → Back t a w (body (Row.One x)) i d
     unfolding fits_shape is_of line_value sum_at line_bits number_at
     back_one q v e =
@@ -118,7 +119,7 @@ module _ (t : Labels) (a : ByteAddr) (w : What) (d : Encoded) (nm : List ℕ) (h
       unfolding row_text
       two_row = sym (rw (operand_tab x, operand_tab y))
 
-      pub back_two : shape_of w ≡ shape n sx sy Sort.Nothing → sum_at t sx (field_text x) (sum_at t sy (field_text y) zero_read) ≡ Valued.Got (Value.Is z) size
+      pub back_two : shape_of w ≡ shape n sx sy Sort.Nothing → sum_at t sx (field_text x) (sum_at t sy (field_text y) zero_read) ≡ Ok (Value.Is z, size)
           → bits_at w a u v 0 i ≡ d → Back t a w (body (Row.Two x y)) i d
       unfolding fits_shape is_of line_value sum_at line_bits number_at
       back_two q s e =
@@ -149,7 +150,7 @@ module _ (t : Labels) (a : ByteAddr) (w : What) (d : Encoded) (nm : List ℕ) (h
         unfolding row_text
         three_row = sym (rw (operand_tab x, operand_tab y, operand_tab o))
 
-        pub back_three : shape_of w ≡ shape n sx sy so → sum_at t sx (field_text x) (sum_at t sy (field_text y) zero_read) ≡ Valued.Got (Value.Is z) size
+        pub back_three : shape_of w ≡ shape n sx sy so → sum_at t sx (field_text x) (sum_at t sy (field_text y) zero_read) ≡ Ok (Value.Is z, size)
             → bits_at w a u v r i ≡ d → Back t a w (body (Row.Three x y o)) i d
         unfolding fits_shape line_value line_bits
         back_three q s e =

@@ -1,6 +1,7 @@
 -- The theorems of this crate, each with its statement; read this file alone with specs/. The proofs are in the files that it cites.
 -- "mnemonic and operands of a Ticket 1 listing assemble to the same bits at the same address" (document 02, ticket 4).
 -- Assumes nothing.
+use Rattle.std.specs.Prelude.{Ok}
 use Prim.Native.Nat.{ℕ, ◌-◌, ◌<◌, ◌≤◌}
 use mathlib.Core.Path.{◌≡◌, refl, sym, ap, ◌∙◌}
 use mathlib.Core.Bool.{true, false}
@@ -21,7 +22,7 @@ use Rattle.expr.specs.Expr.{Labels, none}
 use Rattle.forms.specs.Form.{lines_of, what_in, shape_of, is_known}
 use Rattle.forms.specs.Says.{bytes_in}
 use Rattle.asm.specs.Assemble.{address_of, label_in, line_bytes, code_of, text_labels, answered, verdict_in, assembled_of}
-use Rattle.asm.specs.declared.Assembled.{Assembled}
+use Rattle.asm.specs.Assemble.{Assembled}
 use Rattle.reassembly.specs.Lines.{line_for, what_shown, number_in, bits_listed, Read, text_for}
 use Rattle.reassembly.proofs.Entries as entries
 use Rattle.reassembly.proofs.Again as again
@@ -76,16 +77,16 @@ module _ (m : List ℕ) (s e : ℕ) (bytes : Bytes m) (ok : is_out_of (length m)
   labels_are = again.labels_are m s e bytes ok
 
   -- 5. Assembled from s on into an image that reaches to e, whatever it holds, no line is refused: as many lines as the listing has, and the end e; ..
-  pub verdict_is : (n : ℕ) → e ≤ n → verdict_in (text_for m s e) s n ≡ Assembled.Done (length (entries_in m s e)) e
+  pub verdict_is : (n : ℕ) → e ≤ n → verdict_in (text_for m s e) s n ≡ Ok (length (entries_in m s e), e)
   verdict_is = again.verdict_is m s e bytes ok
 
   -- .. the image has the listed bytes at their place and is otherwise as it was.
   pub assembled_is : (n : List ℕ) → e ≤ length n
-      → assembled_of (text_for m s e) s n ≡ answered (Assembled.Done (length (entries_in m s e)) e) (take s n ++ (take (e - s) (drop s m) ++ drop e n))
+      → assembled_of (text_for m s e) s n ≡ answered (Ok (length (entries_in m s e), e)) (take s n ++ (take (e - s) (drop s m) ++ drop e n))
   assembled_is = again.assembled_is m s e bytes ok
 
   -- 6. So a listing that is assembled over its own image leaves it as it is.
-  pub assembled_again : assembled_of (text_for m s e) s m ≡ answered (Assembled.Done (length (entries_in m s e)) e) m
+  pub assembled_again : assembled_of (text_for m s e) s m ≡ answered (Ok (length (entries_in m s e), e)) m
   assembled_again = again.assembled_again m s e bytes ok
 
 -- 7. An example: an instruction, a jump to an address below 0, two bytes that are no instruction, and an instruction cut by the end.

@@ -1,5 +1,6 @@
 -- A whole listing, assembled again.
 -- Assumes nothing.
+use Rattle.std.specs.Prelude.{Ok}
 use Prim.Native.Nat.{ℕ, zero, suc, ◌+◌, ◌-◌, ◌%◌, ◌^◌, ◌<◌, ◌≤◌}
 use mathlib.Core.Path.{◌≡◌, refl, sym, ap, subst, ◌∙◌}
 use mathlib.Core.Bool.{Bool, true, false}
@@ -17,7 +18,7 @@ use Rattle.columns.proofs.Cover.{even, size_inside}
 use Rattle.expr.specs.Expr.{Labels}
 use Rattle.forms.specs.Form.{what_in, shape_of}
 use Rattle.asm.specs.Assemble.{address_of, with_name, with_label, label_for, bytes_for, labels_of, room_check, verdict_of, code_of}
-use Rattle.asm.specs.declared.Assembled.{Assembled}
+use Rattle.asm.specs.Assemble.{Assembled}
 use Rattle.reassembly.specs.Lines.{line_for}
 use Rattle.reassembly.proofs.Entries.{lines_for, line_known, line_label, line_size_lem, line_check_lem, line_bytes_lem, bits_read}
 
@@ -84,12 +85,12 @@ module _ (m : List ℕ) (bytes : Bytes m) (e : ℕ) (lim : e ≤ 65536) (even_en
     unfolding labels_of
     labels_none t = over (λ (b : ℕ) (l : List Entry). labels_of t (from b) (lines_for l) ≡ t) refl (λ b l i k f. label_step b i t (lines_for l) ∙ f) (e - a) a (omega arith) h p
 
-    pub verdict_done : (t : Labels) (s : List ℕ) (n : ℕ) → e ≤ n → (i : ℕ) → verdict_of t s a n i (lines_for (entries_in m a e)) ≡ Assembled.Done (i + length (entries_in m a e)) e
+    pub verdict_done : (t : Labels) (s : List ℕ) (n : ℕ) → e ≤ n → (i : ℕ) → verdict_of t s a n i (lines_for (entries_in m a e)) ≡ Ok (i + length (entries_in m a e), e)
     unfolding verdict_of
     verdict_done t s n j =
-        over (λ (b : ℕ) (l : List Entry). (i : ℕ) → verdict_of t s b n i (lines_for l) ≡ Assembled.Done (i + length l) e)
-        (λ i. ap (λ (w : ℕ). Assembled.Done w e) (omega arith))
-        (λ b l g k f i. verdict_step b g t s n i (lines_for l) k j ∙ f (suc i) ∙ ap (λ (w : ℕ). Assembled.Done w e) (omega arith))
+        over (λ (b : ℕ) (l : List Entry). (i : ℕ) → verdict_of t s b n i (lines_for l) ≡ Ok (i + length l, e))
+        (λ i. ap (λ (w : ℕ). Ok (w, e)) (omega arith))
+        (λ b l g k f i. verdict_step b g t s n i (lines_for l) k j ∙ f (suc i) ∙ ap (λ (w : ℕ). Ok (w, e)) (omega arith))
         (e - a) a (omega arith) h p
 
     pub code_bytes : (t : Labels) → code_of t (from a) (lines_for (entries_in m a e)) ≡ bytes_read (joined bits_text (entries_in m a e))

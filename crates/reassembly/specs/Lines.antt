@@ -1,6 +1,6 @@
 -- Words that the theorems on a listing that is assembled again are stated in (proofs/Theorems.antt has the statements).
 -- Assumes nothing.
-use Rattle.std.specs.Prelude.{ℕ, ◌/◌, ◌≡◌, cond, List, [], ◌∷◌, ◌++◌, eqb, ℤ}
+use Rattle.std.specs.Prelude.{ℕ, ◌/◌, ◌≡◌, cond, List, [], ◌∷◌, ◌++◌, eqb, ℤ, Option, Some, Ok}
 use Rattle.word.specs.declared.ByteAddr.{ByteAddr}
 use Rattle.isa.specs.Codes.{kind_of}
 use Rattle.isa.specs.declared.Encoded.{Encoded}
@@ -11,7 +11,7 @@ use Rattle.listing.specs.declared.Row.{Row}
 use Rattle.listing.specs.declared.Entry.{Entry}
 use Rattle.columns.specs.Columns.{joined}
 use Rattle.expr.specs.Expr.{Labels}
-use Rattle.expr.specs.declared.Read.{Read as Valued}
+use Rattle.expr.specs.Expr.{Read as Valued}
 use Rattle.expr.specs.declared.Value.{Value}
 use Rattle.forms.specs.Form.{body_of, what_in, shape_of}
 use Rattle.forms.specs.Says.{bits_of}
@@ -43,14 +43,14 @@ number_in (Row.Two x y) = number_or (number_or 0 y) x
 number_in (Row.Three x y z) = number_or (number_or (number_or 0 z) y) x
 
 -- the bits that the listing's line has in its bits column
-abbrev pub bits_listed : Entry → Encoded
-bits_listed x = cond x.shown.long (Encoded.Pair x.first x.second) (Encoded.Half x.first)
+abbrev pub bits_listed : Entry → Option Encoded
+bits_listed x = cond x.shown.long (Some (Encoded.Pair x.first x.second)) (Some (Encoded.Half x.first))
 
 -- what the assembler reads in a line at a, with the labels t: a value, which is the number v, and the bits x
-pub record Read (t : Labels) (a : ByteAddr) (l : List ℕ) (v : ℕ) (x : Encoded) : Type 0 where
+pub record Read (t : Labels) (a : ByteAddr) (l : List ℕ) (v : ℕ) (x : Option Encoded) : Type 0 where
   pub value : ℤ
   pub size : ℕ
-  pub valued : line_value t (shape_of (what_in l)) (body_of l) ≡ Valued.Got (Value.Is value) size
+  pub valued : line_value t (shape_of (what_in l)) (body_of l) ≡ Ok (Value.Is value, size)
   pub number : bits_of value ≡ v
   pub bits : line_bits (what_in l) a (body_of l) value ≡ x
 

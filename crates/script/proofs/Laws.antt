@@ -1,13 +1,14 @@
 -- Small laws that the functions' proofs cite.
 -- Assumes nothing.
-use Prim.Native.Nat.{ℕ, zero, suc, ◌+◌, ◌*◌, ◌-◌, ◌/◌, ◌<◌, ◌≤◌}
+use Prim.Native.Nat.{ℕ, zero, suc, ◌+◌, ◌*◌, ◌/◌, ◌<◌, ◌≤◌}
 use mathlib.Core.Path.{◌≡◌, refl, sym, ap, ◌∙◌}
-use mathlib.Core.Bool.{true, false}
+use mathlib.Core.Bool.{Bool, true, false, cond, not}
 use mathlib.Core.List.{List, [], ◌∷◌}
 use native.Mathlib.Numerals.{add-one}
 use native.Mathlib.Omega.{arith}
-use lib.ListN.{length, get_or, drop, set, drop_of_length-le}
+use lib.ListN.{length, get_or, take, drop, set, drop_of_length-le}
 use lib.Seq.{sets, drop-cons}
+use Rattle.std.specs.List.{prefix_len}
 use Rattle.text.specs.Digits.{pair_of}
 use Rattle.script.specs.Line.{pairs_of}
 use Rattle.script.specs.Fault.{ends_word, letters_in}
@@ -38,12 +39,7 @@ bytes_none h i l = short (drop (2 * i) h) (rw lib.ListN.length-drop (omega arith
     short (c ∷ []) q = refl
     short (c ∷ d ∷ r) q = absurd (omega arith)
 
--- no byte stored yet, one more, and none left
-pub put_start : (m h : List ℕ) (a : ℕ) → sets m (a + 0) (pairs_of (drop (2 * 0) h)) ≡ sets m a (pairs_of h)
-put_start m h a =
-    let e : a + 0 ≡ a = omega arith in
-    rw e
-
+-- one byte more stored, and none left
 pub put_more : (m h : List ℕ) (a i : ℕ) → i < length h / 2
     → sets m (a + i) (pairs_of (drop (2 * i) h)) ≡ sets (set m (a + i) (pair_of (get_or h (2 * i) 0) (get_or h (2 * i + 1) 0))) (a + (i + 1)) (pairs_of (drop (2 * (i + 1)) h))
 put_more m h a i l =
@@ -65,32 +61,12 @@ feed_none l i s h = rw (drop_of_length-le l h)
 
 -- ---- letters of a word
 
-module _ (n i : ℕ) (l : List ℕ) where
-  pub letters_on : i < length l → i < n → ends_word (get_or l i 0) ≡ false
-      → letters_in (n - i) (drop i l) ≡ suc (letters_in (n - (i + 1)) (drop (i + 1) l))
-  unfolding letters_in
-  letters_on h q e =
-      let s : n - i ≡ suc (n - (i + 1)) = omega arith in
-      rw (s, add-one i, drop-cons l i 0, e)
-
-  pub letters_stop : i < length l → i < n → ends_word (get_or l i 0) ≡ true → letters_in (n - i) (drop i l) ≡ 0
-  unfolding letters_in
-  letters_stop h q e =
-      let s : n - i ≡ suc (n - (i + 1)) = omega arith in
-      rw (s, drop-cons l i 0, e)
-
-  pub letters_most : n ≤ i → letters_in (n - i) (drop i l) ≡ 0
-  unfolding letters_in
-  letters_most h =
-      let s : n - i ≡ 0 = omega arith in
-      rw s
-
-pub letters_none : (n i : ℕ) (l : List ℕ) → length l ≤ i → letters_in n (drop i l) ≡ 0
+pub letters_is : (n : ℕ) (l : List ℕ) → letters_in n l ≡ prefix_len (λ c. not (ends_word c)) (take n l)
 unfolding letters_in
-letters_none zero i l h = refl
-letters_none (suc n) i l h = rw (drop_of_length-le l h)
-
-pub letters_start : (n : ℕ) (l : List ℕ) → 0 + letters_in (n - 0) (drop 0 l) ≡ letters_in n l
-letters_start n l =
-    let s : n - 0 ≡ n = omega arith in
-    rw s (omega arith)
+letters_is zero l = refl
+letters_is (suc n) [] = refl
+letters_is (suc n) (c ∷ l) = go (ends_word c) (letters_is n l)
+  where
+    go : (t : Bool) {a b : ℕ} → a ≡ b → cond t 0 (suc a) ≡ cond (not t) (1 + b) 0
+    go true e = refl
+    go false e = omega (arith, e)

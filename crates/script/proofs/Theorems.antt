@@ -17,7 +17,7 @@ use Rattle.script.proofs.Reasons.{line_bad}
 
 -- Whatever was fed: the reader holds a reason exactly if a line was bad.
 abbrev Explained : Reader → Type 0
-Explained r = is_fault r.fault.reason ≡ is_bad r.phase
+Explained r = is_fault r.fault ≡ is_bad r.phase
 
 ended_explained : (r : Reader) (l m : List ℕ) (k : Marks) → Explained r → Explained (ended_of r l m k).reader
 ended_explained r l m k h = line_bad r.phase r.fault (take r.used l) m k h
@@ -38,7 +38,7 @@ unfolding feed_of
 fed_explained [] s h = h
 fed_explained (b ∷ t) s h = fed_explained t (byte_of b s) (byte_explained b s h)
 
-pub a_reason_if_bad : (t l m : List ℕ) (k : Marks) → is_fault (feed_of t (fed start_of l m k)).reader.fault.reason ≡ is_bad (feed_of t (fed start_of l m k)).reader.phase
+pub a_reason_if_bad : (t l m : List ℕ) (k : Marks) → is_fault (feed_of t (fed start_of l m k)).reader.fault ≡ is_bad (feed_of t (fed start_of l m k)).reader.phase
 a_reason_if_bad t l m k = fed_explained t (fed start_of l m k) refl
 
 -- After a bad line neither phase, number, reason, memory nor marks change, whatever follows.

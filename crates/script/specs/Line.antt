@@ -1,10 +1,9 @@
 -- What each line of an input does (document 01, "The program").
 -- Assumes nothing.
-use Rattle.std.specs.Prelude.{ℕ, ◌+◌, ◌/◌, ◌%◌, Bool, true, cond, ◌&&◌, ◌||◌, List, [], ◌∷◌, ltb, leb, eqb, length, replicate}
+use Rattle.std.specs.Prelude.{ℕ, ◌+◌, ◌/◌, ◌%◌, Bool, true, cond, ◌&&◌, ◌||◌, List, [], ◌∷◌, ltb, leb, eqb, length, replicate, None, Option, Some}
 use Rattle.std.proofs.lemmas.List.Edits.{sets}
 use Rattle.text.specs.Digits.{decimal_of, address_of, are_hex, pair_of}
 use Rattle.text.specs.Fields.{before_of, beyond_of, same_of}
-use Rattle.text.specs.declared.Read.{Read}
 use Rattle.marks.specs.Memory.{Marks, bits, put_marks}
 use Rattle.script.specs.declared.Phase.{Phase}
 
@@ -26,14 +25,14 @@ abbrev pub told : Phase → List ℕ → Marks → Told
 told p m k = record { phase = p; mem = m; marks = k }
 
 -- "`mem` size (decimal, first line, up to 16,384)"
-abbrev pub size_of : Read → Phase
-size_of Read.Nothing = Phase.Bad
-size_of (Read.Number n) = cond (leb n 16384) (Phase.Body n) Phase.Bad
+abbrev pub size_of : Option ℕ → Phase
+size_of None = Phase.Bad
+size_of (Some n) = cond (leb n 16384) (Phase.Body n) Phase.Bad
 
 -- "`run` budget (decimal, up to 16,384, last line)"
-abbrev pub budget_of : Read → ℕ → Phase
-budget_of Read.Nothing n = Phase.Bad
-budget_of (Read.Number b) n = cond (leb b 16384) (Phase.Done n b) Phase.Bad
+abbrev pub budget_of : Option ℕ → ℕ → Phase
+budget_of None n = Phase.Bad
+budget_of (Some b) n = cond (leb b 16384) (Phase.Done n b) Phase.Bad
 
 -- "hex is lower case, 1 to 16 bytes a line"
 abbrev pub is_even : ℕ → Bool
@@ -48,19 +47,19 @@ pairs_of (c ∷ []) = []
 pairs_of (c ∷ d ∷ h) = pair_of c d ∷ pairs_of h
 
 -- "`at` address (8 hex digits) and hex bytes"; n is memory's size. "A later `at` overwrites bytes and leaves marks"
-unfoldable pub put_of : Read → List ℕ → ℕ → List ℕ → Marks → Told
-put_of Read.Nothing h n m k = told Phase.Bad m k
-put_of (Read.Number a) h n m k =
+unfoldable pub put_of : Option ℕ → List ℕ → ℕ → List ℕ → Marks → Told
+put_of None h n m k = told Phase.Bad m k
+put_of (Some a) h n m k =
     cond (are_bytes h && leb (a + length h / 2) n) (told (Phase.Body n) (sets m a (pairs_of h)) k) (told Phase.Bad m k)
 
 -- "`mark` address and decimal count": c bytes from a on become marked, if they are inside memory of n bytes; no byte at all is inside it anywhere
-unfoldable pub count_of : ℕ → Read → ℕ → List ℕ → Marks → Told
-count_of a Read.Nothing n m k = told Phase.Bad m k
-count_of a (Read.Number c) n m k = cond (eqb c 0 || leb (a + c) n) (told (Phase.Body n) m (put_marks c k a true)) (told Phase.Bad m k)
+unfoldable pub count_of : ℕ → Option ℕ → ℕ → List ℕ → Marks → Told
+count_of a None n m k = told Phase.Bad m k
+count_of a (Some c) n m k = cond (eqb c 0 || leb (a + c) n) (told (Phase.Body n) m (put_marks c k a true)) (told Phase.Bad m k)
 
-unfoldable pub mark_of : Read → Read → ℕ → List ℕ → Marks → Told
-mark_of Read.Nothing c n m k = told Phase.Bad m k
-mark_of (Read.Number a) c n m k = count_of a c n m k
+unfoldable pub mark_of : Option ℕ → Option ℕ → ℕ → List ℕ → Marks → Told
+mark_of None c n m k = told Phase.Bad m k
+mark_of (Some a) c n m k = count_of a c n m k
 
 -- the four words
 abbrev pub word_mem : List ℕ

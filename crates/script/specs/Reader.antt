@@ -1,6 +1,6 @@
 -- Bytes taken one by one: what is kept between two of them.
 -- Assumes nothing.
-use Rattle.std.specs.Prelude.{ℕ, ◌+◌, cond, List, [], ◌∷◌, ltb, eqb, take, set}
+use Rattle.std.specs.Prelude.{ℕ, ◌+◌, cond, List, [], ◌∷◌, ltb, eqb, take, set, Option}
 use Rattle.marks.specs.Memory.{Marks}
 use Rattle.script.specs.Line.{Told, line_of, number_after}
 use Rattle.script.specs.Fault.{good, fault_of}
@@ -29,13 +29,13 @@ abbrev pub kept_in : ℕ → Reader → List ℕ → List ℕ
 kept_in b r l = cond (ltb r.used 45) (set l r.used b) l
 
 -- the line is whole
-abbrev pub reader_after : Told → ℕ → Fault → Reader
+abbrev pub reader_after : Told → ℕ → Option Fault → Reader
 reader_after t n f = record { phase = t.phase; number = number_after t.phase n; used = 0; fault = f }
 
 abbrev pub told_by : Reader → List ℕ → List ℕ → Marks → Told
 told_by r l m k = line_of r.phase (take r.used l) m k
 
-abbrev pub fault_by : Reader → List ℕ → Fault
+abbrev pub fault_by : Reader → List ℕ → Option Fault
 fault_by r l = fault_of r.phase r.fault (take r.used l)
 
 abbrev pub ended_of : Reader → List ℕ → List ℕ → Marks → Fed

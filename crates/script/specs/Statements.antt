@@ -1,8 +1,8 @@
 -- Words of the theorem that a bad line, and no other, has a reason.
 -- Assumes nothing.
-use Rattle.std.specs.Prelude.{Bool, true, false}
+use Rattle.std.specs.Prelude.{Bool, true, false, None, Option, Some}
 use Rattle.script.specs.declared.Phase.{Phase}
-use Rattle.script.specs.declared.Reason.{Reason}
+use Rattle.script.specs.declared.Fault.{Fault}
 
 abbrev pub is_bad : Phase → Bool
 is_bad Phase.First = false
@@ -10,17 +10,6 @@ is_bad (Phase.Body n) = false
 is_bad (Phase.Done n b) = false
 is_bad Phase.Bad = true
 
-abbrev pub is_fault : Reason → Bool
-is_fault Reason.Nothing = false
-is_fault Reason.First = true
-is_fault Reason.Word = true
-is_fault Reason.AfterRun = true
-is_fault Reason.Decimal = true
-is_fault Reason.LeadingZero = true
-is_fault Reason.TooLarge = true
-is_fault Reason.Address = true
-is_fault Reason.Bytes = true
-is_fault Reason.Odd = true
-is_fault Reason.Outside = true
-is_fault Reason.Unended = true
-is_fault Reason.Missing = true
+abbrev pub is_fault : Option Fault → Bool
+is_fault None = false
+is_fault (Some f) = true

@@ -5,77 +5,61 @@ ghost use Rattle.script.specs.Fault.{good, found, ends_word, letters_in, bad_dig
 
 use crate::lines::{is_even, is_inside};
 use crate::{Fault, Phase, Reader, Reason};
-use text::Read;
 
-fn early_fault(reason: Reason) -> Fault
+fn early_fault(reason: Reason) -> Option<Fault>
     ensures { result ≡ early reason }
 {
-    Fault {
+    Some(Fault {
         reason,
         place: 0,
         byte: 0,
-    }
+    })
 }
 
-pub fn no_fault() -> Fault
-    ensures { result ≡ good }
-{
-    early_fault(Reason::Nothing)
-}
-
-fn found_at(reason: Reason, at: usize, l: &[u8]) -> Fault
+fn found_at(reason: Reason, at: usize, l: &[u8]) -> Option<Fault>
     ensures { result ≡ found reason at l.now }
 {
-    if at < l.len() {
-        return Fault {
+    Some(match l.get(at) {
+        Some(b) => Fault {
             reason,
             place: at + 1,
-            byte: l[at],
-        };
-    }
-    Fault {
-        reason,
-        place: l.len() + 1,
-        byte: 10,
-    }
+            byte: *b,
+        },
+        None => Fault {
+            reason,
+            place: l.len() + 1,
+            byte: b'\n',
+        },
+    })
 }
 
 fn ends_word(c: u8) -> bool
     ensures { result ≡ ends_word c }
 {
-    word::either(c < 97, 122 < c)
+    c < b'a' || b'z' < c
 }
 
 fn letters_in(most: usize, l: &[u8]) -> usize
     ensures { result ≡ letters_in most l.now }
 {
-    let mut i: usize = 0;
-    while i < l.len() {
-        if most <= i {
-            return i;
-        }
-        if ends_word(l[i]) {
-            return i;
-        }
-        i += 1;
-    }
-    i
+    l.iter().take(most).take_while(|c| !ends_word(**c)).count()
 }
 
 fn are_bad(d: usize, n: usize) -> bool
     ensures { result ≡ bad_digits d n }
 {
-    word::either(d == 0, d < n)
+    d == 0 || d < n
 }
 
 fn is_bad_address(d: usize, n: usize) -> bool
     ensures { result ≡ bad_address d n }
 {
-    !word::both(d == 8, n == 8)
+    d != 8 || n != 8
 }
 
 // `rest` is what is wrong beyond the form of the field, which starts at `at`.
-fn decimal_fault(at: usize, l: &[u8], f: &[u8], rest: Fault) -> Fault
+#[tactic(auto, unfolding(crate::specs::Fault::decimal_fault))]
+fn decimal_fault(at: usize, l: &[u8], f: &[u8], rest: Option<Fault>) -> Option<Fault>
     requires { at ≤ 32 }
     ensures { result ≡ decimal_fault at l.now f.now rest }
 {
@@ -89,7 +73,8 @@ fn decimal_fault(at: usize, l: &[u8], f: &[u8], rest: Fault) -> Fault
     rest
 }
 
-fn address_fault(at: usize, l: &[u8], f: &[u8], rest: Fault) -> Fault
+#[tactic(auto, unfolding(crate::specs::Fault::address_fault))]
+fn address_fault(at: usize, l: &[u8], f: &[u8], rest: Option<Fault>) -> Option<Fault>
     requires { at ≤ 32 }
     ensures { result ≡ address_fault at l.now f.now rest }
 {
@@ -100,7 +85,8 @@ fn address_fault(at: usize, l: &[u8], f: &[u8], rest: Fault) -> Fault
     rest
 }
 
-fn bytes_fault(l: &[u8], h: &[u8], rest: Fault) -> Fault
+#[tactic(auto, unfolding(crate::specs::Fault::bytes_fault))]
+fn bytes_fault(l: &[u8], h: &[u8], rest: Option<Fault>) -> Option<Fault>
     ensures { result ≡ bytes_fault l.now h.now rest }
 {
     let d = text::digits_in(16, 32, h);
@@ -113,52 +99,45 @@ fn bytes_fault(l: &[u8], h: &[u8], rest: Fault) -> Fault
     found_at(Reason::Odd, 12 + d, l)
 }
 
-fn limit_fault(r: Read, l: &[u8]) -> Fault
+#[tactic(auto, unfolding(crate::specs::Fault::limit_fault))]
+fn limit_fault(r: Option<u32>, l: &[u8]) -> Option<Fault>
     ensures { result ≡ limit_fault r l.now }
 {
     match r {
-        Read::Nothing => no_fault(),
-        Read::Number(n) => {
-            if n <= 16384 {
-                return no_fault();
-            }
-            found_at(Reason::TooLarge, 4, l)
-        }
+        Some(n) if n > 16384 => found_at(Reason::TooLarge, 4, l),
+        _ => None,
     }
 }
 
-fn away_fault(x: Read, c: usize, at: usize, l: &[u8], n: u32) -> Fault
+#[tactic(auto, unfolding(crate::specs::Fault::away_fault))]
+fn away_fault(x: Option<u32>, c: usize, at: usize, l: &[u8], n: u32) -> Option<Fault>
     requires { c < 9223372036854775808 }
     ensures { result ≡ away_fault x c at l.now n }
 {
     match x {
-        Read::Nothing => no_fault(),
-        Read::Number(a) => {
-            if word::either(c == 0, is_inside(a, c, n)) {
-                return no_fault();
-            }
-            found_at(Reason::Outside, at, l)
-        }
+        Some(a) if c != 0 && !is_inside(a, c, n) => found_at(Reason::Outside, at, l),
+        _ => None,
     }
 }
 
-fn count_fault(x: Read, r: Read, l: &[u8], n: u32) -> Fault
+#[tactic(auto, unfolding(crate::specs::Fault::count_fault))]
+fn count_fault(x: Option<u32>, r: Option<u32>, l: &[u8], n: u32) -> Option<Fault>
     ensures { result ≡ count_fault x r l.now n }
 {
     match r {
-        Read::Nothing => no_fault(),
-        Read::Number(c) => away_fault(x, c as usize, 5, l, n),
+        None => None,
+        Some(c) => away_fault(x, c as usize, 5, l, n),
     }
 }
 
-fn number_fault(l: &[u8], r: &[u8]) -> Fault
+fn number_fault(l: &[u8], r: &[u8]) -> Option<Fault>
     ensures { result ≡ number_fault l.now r.now }
 {
     let rest = limit_fault(text::decimal(r), l);
     decimal_fault(4, l, r, rest)
 }
 
-fn put_fault(l: &[u8], r: &[u8], n: u32) -> Fault
+fn put_fault(l: &[u8], r: &[u8], n: u32) -> Option<Fault>
     ensures { result ≡ put_fault l.now r.now n }
 {
     let f = text::before(r);
@@ -167,7 +146,7 @@ fn put_fault(l: &[u8], r: &[u8], n: u32) -> Fault
     address_fault(3, l, f, bytes_fault(l, h, away))
 }
 
-fn mark_fault(l: &[u8], r: &[u8], n: u32) -> Fault
+fn mark_fault(l: &[u8], r: &[u8], n: u32) -> Option<Fault>
     ensures { result ≡ mark_fault l.now r.now n }
 {
     let f = text::before(r);
@@ -176,7 +155,8 @@ fn mark_fault(l: &[u8], r: &[u8], n: u32) -> Fault
     address_fault(5, l, f, decimal_fault(14, l, c, away))
 }
 
-fn first_fault(l: &[u8]) -> Fault
+#[tactic(auto, unfolding(crate::specs::Fault::first_fault))]
+fn first_fault(l: &[u8]) -> Option<Fault>
     ensures { result ≡ first_fault l.now }
 {
     if text::is_same(text::before(l), b"mem") {
@@ -185,7 +165,8 @@ fn first_fault(l: &[u8]) -> Fault
     found_at(Reason::First, letters_in(4, l), l)
 }
 
-fn body_fault(l: &[u8], w: &[u8], r: &[u8], n: u32) -> Fault
+#[tactic(auto, unfolding(crate::specs::Fault::body_fault))]
+fn body_fault(l: &[u8], w: &[u8], r: &[u8], n: u32) -> Option<Fault>
     ensures { result ≡ body_fault l.now w.now r.now n }
 {
     if text::is_same(w, b"at") {
@@ -200,7 +181,8 @@ fn body_fault(l: &[u8], w: &[u8], r: &[u8], n: u32) -> Fault
     found_at(Reason::Word, letters_in(4, l), l)
 }
 
-pub fn line_fault(p: Phase, f: Fault, l: &[u8]) -> Fault
+#[tactic(auto, unfolding(crate::specs::Fault::fault_of))]
+pub fn line_fault(p: Phase, f: Option<Fault>, l: &[u8]) -> Option<Fault>
     ensures { result ≡ fault_of p f l.now }
 {
     match p {
@@ -212,33 +194,34 @@ pub fn line_fault(p: Phase, f: Fault, l: &[u8]) -> Fault
 }
 
 // After the last part: why the answer is `bad`, or that nothing is wrong.
-pub fn why(r: Reader) -> Fault
+#[tactic(auto, unfolding(crate::specs::Fault::end_fault))]
+pub fn why(r: Reader) -> Option<Fault>
     ensures { result ≡ why_of r }
 {
-    let phase = r.phase;
     let ended = r.used == 0;
-    match phase {
-        Phase::First => unread(ended),
-        Phase::Body(_) => unread(ended),
+    match r.phase {
+        Phase::First | Phase::Body(_) => unread(ended),
         Phase::Done(_, _) => trailing(ended),
         Phase::Bad => r.fault,
     }
 }
 
-fn unread(ended: bool) -> Fault
+fn unread(ended: bool) -> Option<Fault>
     ensures { result ≡ early (cond ended Reason.Missing Reason.Unended) }
 {
-    if ended {
-        return early_fault(Reason::Missing);
-    }
-    early_fault(Reason::Unended)
+    early_fault(if ended {
+        Reason::Missing
+    } else {
+        Reason::Unended
+    })
 }
 
-fn trailing(ended: bool) -> Fault
-    ensures { result ≡ early (cond ended Reason.Nothing Reason.AfterRun) }
+fn trailing(ended: bool) -> Option<Fault>
+    ensures { result ≡ cond ended good (early Reason.AfterRun) }
 {
     if ended {
-        return no_fault();
+        None
+    } else {
+        early_fault(Reason::AfterRun)
     }
-    early_fault(Reason::AfterRun)
 }

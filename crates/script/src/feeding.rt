@@ -4,7 +4,7 @@ ghost use Rattle.marks.specs.Memory.{bits};
 ghost use Rattle.script.specs.Line.{blank, unmarked, next_number, number_after};
 ghost use Rattle.script.specs.Reader.{fed, start_of, kept_by, kept_in, reader_after, told_by, fault_by, byte_of, feed_of};
 
-use crate::faults::{line_fault, no_fault};
+use crate::faults::line_fault;
 use crate::lines::whole_line;
 use crate::rooms::{clear, unmark};
 use crate::{Phase, Reader};
@@ -12,16 +12,14 @@ use crate::{Phase, Reader};
 fn next_number(n: u64) -> u64
     ensures { result ≡ next_number n }
 {
-    if n < 18446744073709551615 { n + 1 } else { n }
+    n.saturating_add(1)
 }
 
 fn number_after(p: Phase, n: u64) -> u64
     ensures { result ≡ number_after p n }
 {
     match p {
-        Phase::First => next_number(n),
-        Phase::Body(_) => next_number(n),
-        Phase::Done(_, _) => next_number(n),
+        Phase::First | Phase::Body(_) | Phase::Done(_, _) => next_number(n),
         Phase::Bad => n,
     }
 }
@@ -31,11 +29,9 @@ fn end_line(r: Reader, line: &[u8; 45], m: &mut [u8; 16384], k: &mut [u8; 2048])
     ensures m_after { m.new ≡ (told_by r line.now m.old (bits k.old)).mem }
     ensures k_after { bits k.new ≡ (told_by r line.now m.old (bits k.old)).marks }
 {
-    let before = r.phase;
-    let kept = r.fault;
     let l = text::start_part(line, r.used);
-    let fault = line_fault(before, kept, l);
-    let phase = whole_line(before, l, m, k);
+    let fault = line_fault(r.phase, r.fault, l);
+    let phase = whole_line(r.phase, l, m, k);
     Reader {
         phase,
         number: number_after(phase, r.number),
@@ -48,17 +44,17 @@ fn keep_byte(r: Reader, b: u8, line: &mut [u8; 45]) -> Reader
     ensures value { result ≡ kept_by r }
     ensures line_after { line.new ≡ kept_in b r line.old }
 {
-    let used = r.used;
-    if used < 45 {
-        line[used] = b;
+    if r.used < 45 {
+        line[r.used] = b;
         return Reader {
-            used: used + 1,
+            used: r.used + 1,
             ..r
         };
     }
     r
 }
 
+#[tactic(auto, unfolding(crate::specs::Reader::byte_of))]
 fn take_byte(
     r: Reader,
     b: u8,
@@ -90,7 +86,7 @@ pub fn start(m: &mut [u8; 16384], k: &mut [u8; 2048]) -> Reader
         phase: Phase::First,
         number: 1,
         used: 0,
-        fault: no_fault(),
+        fault: None,
     }
 }
 
@@ -105,10 +101,8 @@ pub fn feed(
     ensures { fed result line.new m.new (bits k.new) ≡ feed_of part.now (fed r line.old m.old (bits k.old)) }
 {
     let mut s = r;
-    let mut i: usize = 0;
-    while i < part.len() {
-        s = take_byte(s, part[i], line, m, k);
-        i += 1;
+    for b in part {
+        s = take_byte(s, *b, line, m, k);
     }
     s
 }

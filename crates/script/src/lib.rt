@@ -19,12 +19,11 @@ pub enum Phase {
     Bad,
 }
 
-// Why an input is bad: nothing is wrong; the first line is not `mem`; a later one is none of the other three; something stands after `run`; a decimal that
+// Why an input is bad: the first line is not `mem`; a later one is none of the other three; something stands after `run`; a decimal that
 // is none, starts with zero or is above its limit; an address that is none; bytes that are none, or lack a digit; a place outside memory; the last
 // line is unfinished; the input ends before `run`.
 #[derive(Clone, Copy)]
 pub enum Reason {
-    Nothing,
     First,
     Word,
     AfterRun,
@@ -53,5 +52,5 @@ pub struct Reader {
     pub phase: Phase,
     pub number: u64,
     pub used: usize,
-    pub fault: Fault,
+    pub fault: Option<Fault>,
 }

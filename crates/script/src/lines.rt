@@ -5,36 +5,23 @@ ghost use Rattle.marks.specs.Memory.{bits, put_marks};
 ghost use Rattle.script.specs.Line.{size_of, budget_of, is_even, are_bytes, pairs_of, put_of, count_of, mark_of, first_of, body_of, line_of};
 
 use crate::Phase;
-use text::Read;
 use word::ByteAddr;
 
-fn size_in(r: Read) -> Phase
+fn size_in(r: Option<u32>) -> Phase
     ensures { result ≡ size_of r }
 {
     match r {
-        Read::Nothing => Phase::Bad,
-        Read::Number(n) => {
-            if n <= 16384 {
-                Phase::Body(n)
-            } else {
-                Phase::Bad
-            }
-        }
+        Some(n) if n <= 16384 => Phase::Body(n),
+        _ => Phase::Bad,
     }
 }
 
-fn budget_in(r: Read, n: u32) -> Phase
+fn budget_in(r: Option<u32>, n: u32) -> Phase
     ensures { result ≡ budget_of r n }
 {
     match r {
-        Read::Nothing => Phase::Bad,
-        Read::Number(b) => {
-            if b <= 16384 {
-                Phase::Done(n, b)
-            } else {
-                Phase::Bad
-            }
-        }
+        Some(b) if b <= 16384 => Phase::Done(n, b),
+        _ => Phase::Bad,
     }
 }
 
@@ -48,10 +35,7 @@ fn are_bytes(h: &[u8]) -> bool
     ensures { result ≡ are_bytes h.now }
 {
     let n = h.len();
-    word::both(
-        text::are_hex(h),
-        word::both(is_even(n), word::both(2 <= n, n <= 32)),
-    )
+    text::are_hex(h) && is_even(n) && 2 <= n && n <= 32
 }
 
 fn put_byte(m: &mut [u8], at: usize, b: u8)
@@ -65,14 +49,8 @@ fn put_byte(m: &mut [u8], at: usize, b: u8)
 fn put_bytes(a: u32, h: &[u8], m: &mut [u8])
     ensures { m.new ≡ sets m.old a (pairs_of h.now) }
 {
-    let from = a as usize;
-    let n = h.len() / 2;
-    let mut i: usize = 0;
-    while i < n {
-        let high = 2 * i;
-        let low = high + 1;
-        put_byte(m, from + i, text::pair(h[high], h[low]));
-        i += 1;
+    for i in 0..h.len() / 2 {
+        put_byte(m, a as usize + i, text::pair(h[2 * i], h[2 * i + 1]));
     }
 }
 
@@ -83,57 +61,56 @@ pub fn is_inside(a: u32, c: usize, n: u32) -> bool
     a as usize + c <= n as usize
 }
 
-fn put_line(r: Read, h: &[u8], n: u32, m: &mut [u8; 16384], k: &mut [u8; 2048]) -> Phase
+#[tactic(auto, unfolding(crate::specs::Line::put_of))]
+fn put_line(r: Option<u32>, h: &[u8], n: u32, m: &mut [u8; 16384], k: &mut [u8; 2048]) -> Phase
     ensures value { result ≡ (put_of r h.now n m.old (bits k.old)).phase }
     ensures m_after { m.new ≡ (put_of r h.now n m.old (bits k.old)).mem }
     ensures k_after { bits k.new ≡ (put_of r h.now n m.old (bits k.old)).marks }
 {
     match r {
-        Read::Nothing => Phase::Bad,
-        Read::Number(a) => {
-            if are_bytes(h) {
-                if is_inside(a, h.len() / 2, n) {
-                    put_bytes(a, h, m);
-                    return Phase::Body(n);
-                }
-                return Phase::Bad;
-            }
-            Phase::Bad
+        Some(a) if are_bytes(h) && is_inside(a, h.len() / 2, n) => {
+            put_bytes(a, h, m);
+            Phase::Body(n)
         }
+        _ => Phase::Bad,
     }
 }
 
-fn count_line(a: u32, r: Read, n: u32, m: &mut [u8; 16384], k: &mut [u8; 2048]) -> Phase
+#[tactic(auto, unfolding(crate::specs::Line::count_of, marks::specs::Memory::put_marks))]
+fn count_line(a: u32, r: Option<u32>, n: u32, m: &mut [u8; 16384], k: &mut [u8; 2048]) -> Phase
     ensures value { result ≡ (count_of a r n m.old (bits k.old)).phase }
     ensures m_after { m.new ≡ (count_of a r n m.old (bits k.old)).mem }
     ensures k_after { bits k.new ≡ (count_of a r n m.old (bits k.old)).marks }
 {
     match r {
-        Read::Nothing => Phase::Bad,
-        Read::Number(c) => {
-            if c == 0 {
-                return Phase::Body(n);
-            }
-            if is_inside(a, c as usize, n) {
-                marks::memory::set_range(k, ByteAddr(a), c, true);
-                return Phase::Body(n);
-            }
-            Phase::Bad
+        Some(0) => Phase::Body(n),
+        Some(c) if is_inside(a, c as usize, n) => {
+            marks::memory::set_range(k, ByteAddr(a), c, true);
+            Phase::Body(n)
         }
+        _ => Phase::Bad,
     }
 }
 
-fn mark_line(r: Read, c: Read, n: u32, m: &mut [u8; 16384], k: &mut [u8; 2048]) -> Phase
+#[tactic(auto, unfolding(crate::specs::Line::mark_of))]
+fn mark_line(
+    r: Option<u32>,
+    c: Option<u32>,
+    n: u32,
+    m: &mut [u8; 16384],
+    k: &mut [u8; 2048],
+) -> Phase
     ensures value { result ≡ (mark_of r c n m.old (bits k.old)).phase }
     ensures m_after { m.new ≡ (mark_of r c n m.old (bits k.old)).mem }
     ensures k_after { bits k.new ≡ (mark_of r c n m.old (bits k.old)).marks }
 {
     match r {
-        Read::Nothing => Phase::Bad,
-        Read::Number(a) => count_line(a, c, n, m, k),
+        None => Phase::Bad,
+        Some(a) => count_line(a, c, n, m, k),
     }
 }
 
+#[tactic(auto, unfolding(crate::specs::Line::first_of))]
 fn first_line(l: &[u8]) -> Phase
     ensures { result ≡ first_of l.now }
 {
@@ -143,6 +120,7 @@ fn first_line(l: &[u8]) -> Phase
     Phase::Bad
 }
 
+#[tactic(auto, unfolding(crate::specs::Line::body_of))]
 fn body_line(w: &[u8], r: &[u8], n: u32, m: &mut [u8; 16384], k: &mut [u8; 2048]) -> Phase
     ensures value { result ≡ (body_of w.now r.now n m.old (bits k.old)).phase }
     ensures m_after { m.new ≡ (body_of w.now r.now n m.old (bits k.old)).mem }
@@ -161,6 +139,7 @@ fn body_line(w: &[u8], r: &[u8], n: u32, m: &mut [u8; 16384], k: &mut [u8; 2048]
     Phase::Bad
 }
 
+#[tactic(auto, unfolding(crate::specs::Line::line_of))]
 pub fn whole_line(p: Phase, l: &[u8], m: &mut [u8; 16384], k: &mut [u8; 2048]) -> Phase
     ensures value { result ≡ (line_of p l.now m.old (bits k.old)).phase }
     ensures m_after { m.new ≡ (line_of p l.now m.old (bits k.old)).mem }
@@ -169,7 +148,6 @@ pub fn whole_line(p: Phase, l: &[u8], m: &mut [u8; 16384], k: &mut [u8; 2048]) -
     match p {
         Phase::First => first_line(l),
         Phase::Body(n) => body_line(text::before(l), text::beyond(l), n, m, k),
-        Phase::Done(_, _) => Phase::Bad,
-        Phase::Bad => Phase::Bad,
+        Phase::Done(_, _) | Phase::Bad => Phase::Bad,
     }
 }

@@ -3,6 +3,7 @@ ghost use Rattle.std.specs.Prelude.{◌≡◌};
 ghost use Rattle.marks.specs.Memory.{bits};
 ghost use Rattle.script.specs.Line.{blank, unmarked};
 
+#[tactic(auto, unfolding(crate::specs::Line::blank))]
 pub fn zeros() -> [u8; 16384]
     ensures { result ≡ blank }
 {
@@ -15,6 +16,7 @@ pub fn clear(m: &mut [u8; 16384])
     *m = zeros();
 }
 
+#[tactic(auto, unfolding(crate::specs::Line::unmarked))]
 pub fn unmark(k: &mut [u8; 2048])
     ensures { bits k.new ≡ unmarked }
 {

@@ -1,5 +1,6 @@
 -- Two runs, step after step: they end alike and show the same; they are refused alike.
 -- Assumes nothing.
+use Rattle.std.specs.Prelude.{Err, Ok, Result}
 use Prim.Native.Nat.{ℕ, zero, suc, ◌+◌, ◌%◌}
 use mathlib.Core.Path.{◌≡◌, refl, sym, ap, ap₂, subst, ◌∙◌}
 use mathlib.Core.Bool.{Bool, true, false, cond, not, ◌&&◌, ◌||◌}
@@ -19,7 +20,6 @@ use Rattle.machine.specs.Step.{Stepped, step_of, after}
 use Rattle.machine.specs.Run.{Final, bad_length, judge, go_on, steps_of, judged, run_of}
 use Rattle.machine.specs.Trace.{Shown, trace_on, trace_of, shown, shown_of}
 use Rattle.machine.specs.declared.State.{State}
-use Rattle.machine.specs.declared.Judged.{Judged}
 use Rattle.machine.specs.declared.Done.{Done}
 use Rattle.marks.proofs.Places.{room_has}
 use Rattle.secrecy.specs.Same.{SameControl, SameList, SameMem, Same, SameFinal}
@@ -108,23 +108,23 @@ pub judge_same : (b : ℕ) (t : List ℕ) {a c : State} {m n : List ℕ} {k : Ma
 unfolding judge
 judge_same b t {k = k} s mem =
     ap₂ (λ (l : ℕ) (x : Bool).
-    cond (bad_length l) (Judged.Refused Reply.MemoryLength)
-    (cond (bad_room l k) (Judged.Refused Reply.MarkLength)
-    (cond (bad_mark l k) (Judged.Refused Reply.MarkPastEnd)
-    (cond x (Judged.Refused Reply.Form)
-    (cond (ltb (length t) b) (Judged.Refused Reply.TapeLength)
-    (cond (any_above 63 (take b t)) (Judged.Refused Reply.TapeByte)
-    Judged.Good))))))
+    cond (bad_length l) (Err Reply.MemoryLength)
+    (cond (bad_room l k) (Err Reply.MarkLength)
+    (cond (bad_mark l k) (Err Reply.MarkPastEnd)
+    (cond x (Err Reply.Form)
+    (cond (ltb (length t) b) (Err Reply.TapeLength)
+    (cond (any_above 63 (take b t)) (Err Reply.TapeByte)
+    (Ok tt)))))))
     mem.long
     (form_same s.control)
 
 -- what is not refused: each byte has a mark
-measured : (u w : Bool) (r q : Reply) (x : Judged) → cond u (Judged.Refused r) (cond w (Judged.Refused q) x) ≡ Judged.Good → w ≡ false
+measured : (u w : Bool) (r q : Reply) (x : Result Unit Reply) → cond u (Err r) (cond w (Err q) x) ≡ Ok tt → w ≡ false
 measured true w r q x e = let z : ◌≡◌ {A = ℕ} 0 1 = cc in absurd (omega arith)
 measured false true r q x e = let z : ◌≡◌ {A = ℕ} 0 1 = cc in absurd (omega arith)
 measured false false r q x e = refl
 
-judged_each : (b : ℕ) (t : List ℕ) (a : State) (m : List ℕ) (k : Marks) → judge b t a m k ≡ Judged.Good → Covers k m
+judged_each : (b : ℕ) (t : List ℕ) (a : State) (m : List ℕ) (k : Marks) → judge b t a m k ≡ Ok tt → Covers k m
 unfolding judge
 judged_each b t a m k e = room_has (length m) k (measured (bad_length (length m)) (bad_room (length m) k) Reply.MemoryLength Reply.MarkLength _ e)
 
@@ -134,16 +134,16 @@ module _ (b : ℕ) (t : List ℕ) (a c : State) (m n : List ℕ) (k : Marks) (s 
   pub ends_same : SameFinal (run_of b t a m k) (run_of b t c n k)
   unfolding run_of
   ends_same =
-      subst (λ (j : Judged). SameFinal (judged (judge b t a m k) b t a m k) (judged j b t c n k)) (judge_same b t s mem) (go (judge b t a m k) refl)
+      subst (λ (j : Result Unit Reply). SameFinal (judged (judge b t a m k) b t a m k) (judged j b t c n k)) (judge_same b t s mem) (go (judge b t a m k) refl)
     where
-      go : (j : Judged) → judge b t a m k ≡ j → SameFinal (judged j b t a m k) (judged j b t c n k)
-      go (Judged.Refused r) e = record { reply = refl; steps = refl; cycles = cycles_same s.control; state = s; marks = refl; mem = mem }
-      go Judged.Good e = steps_same b 0 t a c m n k s mem (judged_each b t a m k e)
+      go : (j : Result Unit Reply) → judge b t a m k ≡ j → SameFinal (judged j b t a m k) (judged j b t c n k)
+      go (Err r) e = record { reply = refl; steps = refl; cycles = cycles_same s.control; state = s; marks = refl; mem = mem }
+      go (Ok _) e = steps_same b 0 t a c m n k s mem (judged_each b t a m k e)
 
   pub shown_same : shown_of b t a m k ≡ shown_of b t c n k
   unfolding shown_of
-  shown_same = go (judge b t a m k) refl ∙ ap (λ (j : Judged). shown j b t c n k) (judge_same b t s mem)
+  shown_same = go (judge b t a m k) refl ∙ ap (λ (j : Result Unit Reply). shown j b t c n k) (judge_same b t s mem)
     where
-      go : (j : Judged) → judge b t a m k ≡ j → shown j b t a m k ≡ shown j b t c n k
-      go (Judged.Refused r) e = refl
-      go Judged.Good e = trace_same b 0 t a c m n k s mem (judged_each b t a m k e)
+      go : (j : Result Unit Reply) → judge b t a m k ≡ j → shown j b t a m k ≡ shown j b t c n k
+      go (Err r) e = refl
+      go (Ok _) e = trace_same b 0 t a c m n k s mem (judged_each b t a m k e)

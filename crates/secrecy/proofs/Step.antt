@@ -1,5 +1,6 @@
 -- One step of two runs: it stops with the same answer, or both complete it, still differ only where marked, and show the same line.
 -- Assumes nothing.
+use Rattle.std.specs.Prelude.{Err, None, Ok, Option, Result}
 use Prim.Native.Nat.{ℕ, zero, suc, ◌+◌, ◌/◌, ◌%◌}
 use mathlib.Core.Path.{◌≡◌, refl, sym, ap, ap₂, subst, ◌∙◌}
 use mathlib.Core.Bool.{Bool, true, false, cond, not, ◌&&◌}
@@ -31,8 +32,6 @@ use Rattle.instruction.specs.Act.{reach_of, outside, loaded_from, loaded_mark, a
 use Rattle.instruction.specs.Parts.{half_of, first_half, second_half, is_long_kind, by_second, rest_by, by_first}
 use Rattle.instruction.specs.declared.Reply.{Reply}
 use Rattle.instruction.specs.declared.Halt.{Halt}
-use Rattle.instruction.specs.declared.Fetched.{Fetched}
-use Rattle.instruction.specs.declared.Half.{Half}
 use Rattle.instruction.specs.declared.Reach.{Reach}
 use Rattle.instruction.specs.declared.Act.{Act}
 use Rattle.instruction.proofs.Laws.{fetch_by_parts}
@@ -41,7 +40,6 @@ use Rattle.machine.specs.Step.{Stepped, stopped, completed, lowest, chosen, stor
 use Rattle.machine.specs.declared.State.{State}
 use Rattle.machine.specs.declared.Event.{Event}
 use Rattle.machine.specs.declared.Done.{Done}
-use Rattle.machine.specs.declared.Data.{Data}
 use Rattle.machine.specs.declared.Line.{Line}
 use Rattle.secrecy.specs.Same.{SamePsw, SameControl, SameList, SameMem}
 use Rattle.secrecy.proofs.Psw.{bit_under, bit_over}
@@ -60,10 +58,10 @@ pub record SameDone (d e : Done) : Type 0 where
 
 -- an instruction in both runs, with its data address, which shows if it is a bus error; a marked base's does not
 -- and what it reaches in memory m lies inside
-data SameAct (m : List ℕ) : Act → Data → Act → Data → Type 0 where
-  marked : (p q : Data) → SameAct m (Act.Halted Halt.MarkedOperand) p (Act.Halted Halt.MarkedOperand) q
-  misses : (p : Data) → SameAct m (Act.Halted Halt.DataOutside) p (Act.Halted Halt.DataOutside) p
-  does : {e g : Effect} (t : Taint) (r : Reach) (p : Data) → outside r m ≡ false → SameEffect t e g → SameAct m (Act.Does e t r) p (Act.Does g t r) p
+data SameAct (m : List ℕ) : Act → Option ByteAddr → Act → Option ByteAddr → Type 0 where
+  marked : (p q : Option ByteAddr) → SameAct m (Act.Halted Halt.MarkedOperand) p (Act.Halted Halt.MarkedOperand) q
+  misses : (p : Option ByteAddr) → SameAct m (Act.Halted Halt.DataOutside) p (Act.Halted Halt.DataOutside) p
+  does : {e g : Effect} (t : Taint) (r : Reach) (p : Option ByteAddr) → outside r m ≡ false → SameEffect t e g → SameAct m (Act.Does e t r) p (Act.Does g t r) p
 
 pub data SameStep : Stepped → Stepped → Type 0 where
   stops : (r : Reply) → SameStep (stopped r) (stopped r)
@@ -109,22 +107,22 @@ module _ {k : Marks} {m n : List ℕ} (s : SameMem k m n) where
   half_same : (a : ByteAddr) → half_of a m k ≡ half_of a n k
   unfolding half_of half_at
   half_same a =
-      ap₂ (λ (l : ℕ) (x : Half). cond (not (leb (a.0 + 2) l)) (Half.Halted Halt.FetchOutside) x) s.long
-      (unless (marked_at Width.Half k a) (Half.Halted Halt.FetchMarked) _ _ (λ e. ap Half.Bits (loaded s Width.Half a e)))
+      ap₂ (λ (l : ℕ) (x : Result ℕ Halt). cond (not (leb (a.0 + 2) l)) (Err Halt.FetchOutside) x) s.long
+      (unless (marked_at Width.Half k a) (Err Halt.FetchMarked) _ _ (λ e. ap Ok (loaded s Width.Half a e)))
 
   rest_same : (d : Kind) (h : ℕ) (a : ByteAddr) → rest_by d h a m k ≡ rest_by d h a n k
   unfolding rest_by second_half
-  rest_same d h a = ap (λ (x : Half). by_second (cond (is_long_kind d) x (Half.Bits 0)) d h) (half_same (after_half a))
+  rest_same d h a = ap (λ (x : Result ℕ Halt). by_second (cond (is_long_kind d) x (Ok 0)) d h) (half_same (after_half a))
 
-  by_first_lem : (x : Half) (a : ByteAddr) → by_first x a m k ≡ by_first x a n k
-  by_first_lem (Half.Halted h) a = refl
-  by_first_lem (Half.Bits h) a = rest_same (kind_of (h / 256)) h a
+  by_first_lem : (x : Result ℕ Halt) (a : ByteAddr) → by_first x a m k ≡ by_first x a n k
+  by_first_lem (Err h) a = refl
+  by_first_lem (Ok h) a = rest_same (kind_of (h / 256)) h a
 
   pub fetch_same : (a : ByteAddr) → fetch_of a m k ≡ fetch_of a n k
   unfolding first_half
   fetch_same a =
       fetch_by_parts a m k
-      ∙ ap (λ (x : Half). by_first (cond (eqb (a.0 % 2) 1) (Half.Halted Halt.NoInstruction) x) a m k) (half_same a)
+      ∙ ap (λ (x : Result ℕ Halt). by_first (cond (eqb (a.0 % 2) 1) (Err Halt.NoInstruction) x) a m k) (half_same a)
       ∙ by_first_lem (first_half a n k) a
       ∙ sym (fetch_by_parts a n k)
 
@@ -184,11 +182,11 @@ line_same : {f g : Flags} {a b : Control} → SameControl f a b → (r : Reach) 
 unfolding line_of
 line_same s r e h c = ap₂ (λ (p : ℕ) (x : Entry). record { pc = record { 0 = p }; entry = x; address = data_of r }) (pc_same s) (entry_same r c)
 
-does_by : {m : List ℕ} {e g : Effect} {t u : Taint} (r : Reach) (p : Data) → outside r m ≡ false → t ≡ u → SameEffect t e g → SameAct m (Act.Does e t r) p (Act.Does g u r) p
+does_by : {m : List ℕ} {e g : Effect} {t u : Taint} (r : Reach) (p : Option ByteAddr) → outside r m ≡ false → t ≡ u → SameEffect t e g → SameAct m (Act.Does e t r) p (Act.Does g u r) p
 does_by {m} {e} {g} {t} r p o q s = subst (λ (v : Taint). SameAct m (Act.Does e t r) p (Act.Does g v r) p) q (does t r p o s)
 
 -- "data outside" answers the same in both runs
-choose : {m : List ℕ} {a b : Act} (p : Data) (t u : Bool) → t ≡ u → (t ≡ false → SameAct m a p b p)
+choose : {m : List ℕ} {a b : Act} (p : Option ByteAddr) (t u : Bool) → t ≡ u → (t ≡ false → SameAct m a p b p)
     → SameAct m (cond t (Act.Halted Halt.DataOutside) a) p (cond u (Act.Halted Halt.DataOutside) b) p
 choose p true true e s = misses p
 choose p false false e s = s refl
@@ -249,7 +247,7 @@ module _ {km : List Bool} {ra rb : List ℕ} (regs : SameList false km ra rb) {f
   -- ---- the step
 
   -- an entry, made on control parts that differ only where marked, with the program counter before the step
-  enters_same : (e : Entry) (p : Data) {u v : Control} → SameControl f u v
+  enters_same : (e : Entry) (p : Option ByteAddr) {u v : Control} → SameControl f u v
       → SameStep (completed (entry_done e f u) m k (record { pc = pc_of a; entry = e; address = p })) (completed (entry_done e f v) n k (record { pc = pc_of b; entry = e; address = p }))
   unfolding entry_done
   enters_same e p {u} {v} r =
@@ -258,14 +256,14 @@ module _ {km : List Bool} {ra rb : List ℕ} (regs : SameList false km ra rb) {f
       (pc_same s)
       (goes _ (record { control = passes (entries r e) _ _ _ _ (bit_under r.psw 4 (lit≤ tt)) refl; flags = refl; reg = refl; mark = refl; value = λ h. refl }) mem each)
 
-  halted : (h : Halt) (p : Data) → SameStep (halt_step h p f a m k) (halt_step h p f b n k)
-  halted Halt.FetchOutside p = enters_same Entry.FetchError Data.Nowhere s
+  halted : (h : Halt) (p : Option ByteAddr) → SameStep (halt_step h p f a m k) (halt_step h p f b n k)
+  halted Halt.FetchOutside p = enters_same Entry.FetchError None s
   halted Halt.FetchMarked p = stops Reply.FetchMarked
   halted Halt.NoInstruction p = stops Reply.NoInstruction
   halted Halt.MarkedOperand p = stops Reply.MarkedOperand
   halted Halt.DataOutside p = enters_same Entry.DataError p (onwards s 2)
 
-  acted : {A B : Act} {p q : Data} → SameAct m A p B q → (x : ℕ) → SameStep (act_step A p (value_at one x) f a m k) (act_step B q (value_at other x) f b n k)
+  acted : {A B : Act} {p q : Option ByteAddr} → SameAct m A p B q → (x : ℕ) → SameStep (act_step A p (value_at one x) f a m k) (act_step B q (value_at other x) f b n k)
   acted (marked p q) x = stops Reply.MarkedOperand
   acted (misses p) x = halted Halt.DataOutside p
   acted (does {e} {g} t r p o q) x =
@@ -273,15 +271,15 @@ module _ {km : List Bool} {ra rb : List ℕ} (regs : SameList false km ra rb) {f
       (line_same s r e g q.control)
       (goes (line_of a e r) (done_same s t r q) (stored_same mem each r _ _ _ o (regs.equal x)) (each_same mem each r _ _))
 
-  fetched : (x : Fetched) → SameStep (fetch_step x one m k) (fetch_step x other n k)
+  fetched : (x : Result Instr Halt) → SameStep (fetch_step x one m k) (fetch_step x other n k)
   unfolding instr_step
-  fetched (Fetched.Halted h) = halted h Data.Nowhere
-  fetched (Fetched.Run i) = acted (act_same i (sources_of i).first (sources_of i).second) (sources_of i).first
+  fetched (Err h) = halted h None
+  fetched (Ok i) = acted (act_same i (sources_of i).first (sources_of i).second) (sources_of i).first
 
   happened : (v : Event) → SameStep (event_step v one m k) (event_step v other n k)
-  happened (Event.Enter e) = enters_same e Data.Nowhere s
+  happened (Event.Enter e) = enters_same e None s
   happened Event.Instruction =
-      subst (λ (x : Fetched). SameStep (fetch_step (fetch_of (pc_of a) m k) one m k) (fetch_step x other n k))
+      subst (λ (x : Result Instr Halt). SameStep (fetch_step (fetch_of (pc_of a) m k) one m k) (fetch_step x other n k))
       (ap (λ (p : ℕ). fetch_of (record { 0 = p }) m k) (pc_same s) ∙ fetch_same mem (pc_of b))
       (fetched (fetch_of (pc_of a) m k))
 

@@ -1,5 +1,6 @@
 -- A refusal is the lowest number whose fault holds.
 -- Assumes nothing.
+use Rattle.std.specs.Prelude.{Err, Ok}
 use Prim.Native.Nat.{ℕ, zero, suc, ◌+◌, ◌*◌, ◌-◌, ◌/◌, ◌%◌, ◌<◌, ◌≤◌}
 use mathlib.Core.Path.{◌≡◌, refl, sym, subst, ◌∙◌}
 use mathlib.Core.Bool.{Bool, true, false, cond, not, ◌&&◌, ◌||◌, true≢false, and-eq-true_iff as both}
@@ -18,7 +19,6 @@ use Rattle.instruction.specs.declared.Reply.{Reply}
 use Rattle.machine.specs.State.{out_of_form}
 use Rattle.machine.specs.Run.{bad_length, judge}
 use Rattle.machine.specs.declared.State.{State}
-use Rattle.machine.specs.declared.Judged.{Judged}
 use Rattle.steps.specs.Refusals.{Fault, empty, large, uneven, few_marks, many_marks, mark_past, odd, bit_12, low_bits, high_bits, early, short_tape, high_line, Lowest}
 
 -- one that is marked, and one that is above
@@ -221,13 +221,13 @@ module _ (b : ℕ) (t : List ℕ) (s : State) (m k : List ℕ) where
       go : (t1 t2 t3 t4 t5 t6 : Bool) → bad_length (length m) ≡ t1 → bad_room (length m) (bits k) ≡ t2 → bad_mark (length m) (bits k) ≡ t3
           → out_of_form c ≡ t4 → ltb (length t) b ≡ t5 → any_above 63 (take b t) ≡ t6
           → Lowest F
-          (cond t1 (Judged.Refused Reply.MemoryLength)
-          (cond t2 (Judged.Refused Reply.MarkLength)
-          (cond t3 (Judged.Refused Reply.MarkPastEnd)
-          (cond t4 (Judged.Refused Reply.Form)
-          (cond t5 (Judged.Refused Reply.TapeLength)
-          (cond t6 (Judged.Refused Reply.TapeByte)
-          Judged.Good))))))
+          (cond t1 (Err Reply.MemoryLength)
+          (cond t2 (Err Reply.MarkLength)
+          (cond t3 (Err Reply.MarkPastEnd)
+          (cond t4 (Err Reply.Form)
+          (cond t5 (Err Reply.TapeLength)
+          (cond t6 (Err Reply.TapeByte)
+          (Ok tt)))))))
       go true t2 t3 t4 t5 t6 e1 e2 e3 e4 e5 e6 =
           (length_fault e1, λ n l. lower 1 (none (omega arith)) (none (omega arith)) (none (omega arith)) (none (omega arith)) (none (omega arith)) (none (omega arith)) l)
       go false true t3 t4 t5 t6 e1 e2 e3 e4 e5 e6 =

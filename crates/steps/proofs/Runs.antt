@@ -1,5 +1,6 @@
 -- What a completed step leaves of the registers, and how a run counts.
 -- Assumes nothing.
+use Rattle.std.specs.Prelude.{Err, Ok, Result}
 use Prim.Native.Nat.{ℕ, zero, suc, ◌+◌, ◌<◌}
 use mathlib.Core.Path.{◌≡◌, refl}
 use mathlib.Core.Bool.{Bool, true, false, cond}
@@ -13,9 +14,9 @@ use Rattle.marks.specs.Memory.{Marks}
 use Rattle.machine.specs.Step.{Stepped, stopped, completed, step_of, after}
 use Rattle.machine.specs.Run.{go_on, steps_of, judge, judged, run_of}
 use Rattle.machine.specs.declared.State.{State}
-use Rattle.machine.specs.declared.Judged.{Judged}
 use Rattle.machine.specs.declared.Done.{Done}
 use Rattle.steps.specs.Runs.{Counts, used_up, stops}
+use Rattle.instruction.specs.declared.Reply.{Reply}
 
 -- ---- one place of a list written
 
@@ -50,7 +51,7 @@ counts zero n t s m k = used_up refl (omega arith)
 counts (suc b) n t s m k = counts_on b n t s m k (step_of (get_or t n 0) s m k) refl (λ u l j. counts b (n + 1) t u l j)
 
 module _ (b : ℕ) (t : List ℕ) (s : State) (m : List ℕ) (k : Marks) where
-  pub run_counts : judge b t s m k ≡ Judged.Good → Counts b t (run_of b t s m k)
+  pub run_counts : judge b t s m k ≡ Ok tt → Counts b t (run_of b t s m k)
   unfolding run_of
   run_counts e = let q : 0 + b ≡ b = omega arith in rw e (rw q at (counts b 0 t s m k))
 
@@ -69,6 +70,6 @@ pub run_repeats : (b : ℕ) (t : List ℕ) (s : State) (m : List ℕ) (k : Marks
 unfolding run_of
 run_repeats b t s m k = go (judge b t s m k)
   where
-    go : (j : Judged) → (judged j b t s m k).ended.cycles ≡ (judged j b t s m k).ended.state.control.cycles
-    go (Judged.Refused r) = refl
-    go Judged.Good = repeats b 0 t s m k
+    go : (j : Result Unit Reply) → (judged j b t s m k).ended.cycles ≡ (judged j b t s m k).ended.state.control.cycles
+    go (Err r) = refl
+    go (Ok _) = repeats b 0 t s m k

@@ -1,6 +1,7 @@
 -- Sentences of documents 01 and 02 on steps, refusals and runs, each as a theorem on the definitions in other words than theirs; read this file alone with specs/.
 -- docs/SENTENCES.md has the sentences, and slips/ the wrong definitions that these theorems refuse.
 -- Assumes nothing.
+use Rattle.std.specs.Prelude.{Ok}
 use Prim.Native.Nat.{ℕ, zero, suc, ◌<◌}
 use mathlib.Core.Path.{◌≡◌, refl, subst}
 use mathlib.Core.Bool.{true, false, cond}
@@ -13,14 +14,12 @@ use Rattle.cpu.specs.declared.Control.{Control}
 use Rattle.marks.specs.Memory.{Marks, bits}
 use Rattle.instruction.specs.Reply.{number_of}
 use Rattle.instruction.specs.Fetch.{fetch_of}
-use Rattle.instruction.specs.declared.Fetched.{Fetched}
 use Rattle.instruction.specs.declared.Reply.{Reply}
 use Rattle.machine.specs.State.{fresh_state}
 use Rattle.machine.specs.Step.{stopped, completed, chosen, step_of, after}
 use Rattle.machine.specs.Run.{judge, run_of}
 use Rattle.machine.specs.declared.State.{State}
 use Rattle.machine.specs.declared.Event.{Event}
-use Rattle.machine.specs.declared.Judged.{Judged}
 use Rattle.machine.specs.declared.Done.{Done}
 use Rattle.machine.specs.declared.Line.{Line}
 use Rattle.sentences.specs.Sources.{any_of, stop_from}
@@ -52,7 +51,7 @@ module _ (t : ℕ) (s : State) (m : List ℕ) (k : Marks) where
   stopped_has_reason r e = subst (HasWay t s m k) e (way t s m k)
 
   -- .. with 14 for every instruction that has a marked operand where none may be ..
-  pub marked_operand_stops : (i : Instr) → chosen t s.control ≡ Event.Instruction → fetch_of (pc_of s.control) m k ≡ Fetched.Run i
+  pub marked_operand_stops : (i : Instr) → chosen t s.control ≡ Event.Instruction → fetch_of (pc_of s.control) m k ≡ Ok i
       → any_of (found_in i s m k) (stop_from i) ≡ true → step_of t s m k ≡ stopped Reply.MarkedOperand
   marked_operand_stops = operand_stops t s m k
 
@@ -79,7 +78,7 @@ lowest_refusal = lowest
 
 -- 6. A run that is not refused uses its budget up, with 10, or ends before the first step that stops; the result repeats the cycle count.
 module _ (b : ℕ) (t : List ℕ) (s : State) (m : List ℕ) (k : Marks) where
-  pub a_run_counts : judge b t s m k ≡ Judged.Good → Counts b t (run_of b t s m k)
+  pub a_run_counts : judge b t s m k ≡ Ok tt → Counts b t (run_of b t s m k)
   a_run_counts = run_counts b t s m k
 
   pub a_run_repeats_cycles : (run_of b t s m k).ended.cycles ≡ (run_of b t s m k).ended.state.control.cycles

@@ -1,5 +1,6 @@
 -- What a completed step does, by the way in which it completes.
 -- Assumes nothing.
+use Rattle.std.specs.Prelude.{Err, None, Ok, Option, Result}
 use Prim.Native.Nat.{ℕ, ◌+◌, ◌*◌, ◌-◌, ◌/◌, ◌%◌, ◌^◌, ◌<◌, ◌≤◌}
 use mathlib.Core.Path.{◌≡◌, refl, sym, ap, subst, ◌∙◌}
 use mathlib.Core.Bool.{Bool, true, false, cond, not, ◌&&◌, true≢false}
@@ -34,7 +35,6 @@ use Rattle.instruction.specs.Act.{Val, reach_of, outside, loaded_from, loaded_ma
 use Rattle.instruction.specs.Parts.{decoded_to}
 use Rattle.instruction.specs.Statements.{decoded_at, Is, short, long}
 use Rattle.instruction.specs.declared.Halt.{Halt}
-use Rattle.instruction.specs.declared.Fetched.{Fetched}
 use Rattle.instruction.specs.declared.Reach.{Reach}
 use Rattle.instruction.specs.declared.Reply.{Reply}
 use Rattle.instruction.specs.declared.Act.{Act}
@@ -43,7 +43,6 @@ use Rattle.machine.specs.State.{value_at}
 use Rattle.machine.specs.Step.{Stepped, stopped, completed, chosen, stored_to, marked_to, entry_by, data_of, entry_done, entry_step, halt_step, done_of, line_of, act_step, fetch_step, step_of}
 use Rattle.machine.specs.declared.State.{State}
 use Rattle.machine.specs.declared.Event.{Event}
-use Rattle.machine.specs.declared.Data.{Data}
 use Rattle.machine.proofs.Served.{Served, served_by}
 use Rattle.sentences.specs.Classes.{class_of, cycles_of}
 use Rattle.sentences.specs.Sources.{Found, any_of, reg_from, tf_from, cy_from, stop_from}
@@ -220,18 +219,18 @@ module _ (t : ℕ) (s : State) (m : List ℕ) (k : Marks) where
   abbrev performed : Instr → Stepped
   performed i = act_step (act_of i x y s.flags c m k) (data_of (reach_of i y.value c)) x s.flags c m k
 
-  digits : (i : Instr) → fetch_of (pc_of c) m k ≡ Fetched.Run i → fetch_step (Fetched.Run i) s m k ≡ performed i
+  digits : (i : Instr) → fetch_of (pc_of c) m k ≡ Ok i → fetch_step (Ok i) s m k ≡ performed i
   unfolding decode_of
   digits i e = go (decoded_at m (pc_of c)) (runs_what_decodes (pc_of c) m k i e) refl
     where
       any : Served s m k (decoded_to (decoded_at m (pc_of c))) (first_half s m)
       any = served_by s m k (kind_of (first_half s m / 256)) (first_half s m) (half_at m (after_half (pc_of c)))
 
-      go : (d : Decoded) → Is i d → decoded_at m (pc_of c) ≡ d → fetch_step (Fetched.Run i) s m k ≡ performed i
-      go d short p = subst (λ (u : Decoded). Served s m k (decoded_to u) (first_half s m)) p any
-      go d long p = subst (λ (u : Decoded). Served s m k (decoded_to u) (first_half s m)) p any
+      go : (d : Option Decoded) → Is i d → decoded_at m (pc_of c) ≡ d → fetch_step (Ok i) s m k ≡ performed i
+      go d short p = subst (λ (u : Option Decoded). Served s m k (decoded_to u) (first_half s m)) p any
+      go d long p = subst (λ (u : Option Decoded). Served s m k (decoded_to u) (first_half s m)) p any
 
-  pub instruction_step : (i : Instr) → chosen t c ≡ Event.Instruction → fetch_of (pc_of c) m k ≡ Fetched.Run i → step_of t s m k ≡ performed i
+  pub instruction_step : (i : Instr) → chosen t c ≡ Event.Instruction → fetch_of (pc_of c) m k ≡ Ok i → step_of t s m k ≡ performed i
   unfolding step_of
   instruction_step i h f = rw (h, f) (digits i f)
 
@@ -271,13 +270,13 @@ module _ (t : ℕ) (s : State) (m : List ℕ) (k : Marks) where
         marks = λ g p l. refl;
       }
 
-  fetch_does : (h : chosen t c ≡ Event.Instruction) (f : fetch_of (pc_of c) m k ≡ Fetched.Halted Halt.FetchOutside)
+  fetch_does : (h : chosen t c ≡ Event.Instruction) (f : fetch_of (pc_of c) m k ≡ Err Halt.FetchOutside)
       → DoesIn (by_fetch h f) (entry_step Entry.FetchError s.flags c m k)
   unfolding entry_done entry_cost
   fetch_does h f =
       record { pc = refl; entry = refl; address = refl; control = refl; writes = (refl, refl); memory = refl; marks = λ g p l. refl }
 
-  module _ (i : Instr) (h : chosen t c ≡ Event.Instruction) (f : fetch_of (pc_of c) m k ≡ Fetched.Run i) where
+  module _ (i : Instr) (h : chosen t c ≡ Event.Instruction) (f : fetch_of (pc_of c) m k ≡ Ok i) where
     -- stopped by a marked operand, or a bus error
     outside_does : (o : Outside (reach_in i s m) (length m)) (b : Bool)
         → DoesIn (by_data i h f o) (act_step (cond b (Act.Halted Halt.MarkedOperand) (Act.Halted Halt.DataOutside)) (data_of (reach i)) x s.flags c m k)
@@ -337,7 +336,7 @@ module _ (t : ℕ) (s : State) (m : List ℕ) (k : Marks) where
   unfolding step_of
   choice_step e h = rw h
 
-  halted_step : (r : Halt) → chosen t c ≡ Event.Instruction → fetch_of (pc_of c) m k ≡ Fetched.Halted r → step_of t s m k ≡ halt_step r Data.Nowhere s.flags c m k
+  halted_step : (r : Halt) → chosen t c ≡ Event.Instruction → fetch_of (pc_of c) m k ≡ Err r → step_of t s m k ≡ halt_step r None s.flags c m k
   unfolding step_of
   halted_step r h f = rw (h, f)
 
@@ -353,24 +352,24 @@ module _ (t : ℕ) (s : State) (m : List ℕ) (k : Marks) where
   HasWay (stopped r) = Stopped t s m k (number_of r)
   HasWay (completed d l j z) = Way t s m k
 
-  act_way : (i : Instr) (b u : Bool) (e : Effect) (n : Taint) → chosen t c ≡ Event.Instruction → fetch_of (pc_of c) m k ≡ Fetched.Run i
+  act_way : (i : Instr) (b u : Bool) (e : Effect) (n : Taint) → chosen t c ≡ Event.Instruction → fetch_of (pc_of c) m k ≡ Ok i
       → any_of (found i) (stop_from i) ≡ b → outside (reach i) m ≡ u
       → HasWay (act_step (cond b (Act.Halted Halt.MarkedOperand) (cond u (Act.Halted Halt.DataOutside) (Act.Does e n (reach i)))) (data_of (reach i)) x s.flags c m k)
   act_way i true u e n h f p o = marked_operand i h f p
   act_way i false true e n h f p o = by_data i h f (outside_of m (alike i) o)
   act_way i false false e n h f p o = by_instruction i h f (inside_of m (alike i) o)
 
-  performed_way : (i : Instr) → chosen t c ≡ Event.Instruction → fetch_of (pc_of c) m k ≡ Fetched.Run i → HasWay (performed i)
+  performed_way : (i : Instr) → chosen t c ≡ Event.Instruction → fetch_of (pc_of c) m k ≡ Ok i → HasWay (performed i)
   unfolding act_of
   performed_way i h f = act_way i (blocked i y.mark s.flags) (outside (reach i) m) _ _ h f (sym (marks_that_stop (found i) i)) refl
 
-  fetched_way : (v : Fetched) → FetchHalts v → chosen t c ≡ Event.Instruction → fetch_of (pc_of c) m k ≡ v → HasWay (step_of t s m k)
-  fetched_way (Fetched.Halted Halt.FetchOutside) p h f = rw (halted_step Halt.FetchOutside h f) (by_fetch h f)
-  fetched_way (Fetched.Halted Halt.FetchMarked) p h f = rw (halted_step Halt.FetchMarked h f) (fetch_marked h f)
-  fetched_way (Fetched.Halted Halt.NoInstruction) p h f = rw (halted_step Halt.NoInstruction h f) (no_instruction h f)
-  fetched_way (Fetched.Halted Halt.MarkedOperand) p h f = absurd p
-  fetched_way (Fetched.Halted Halt.DataOutside) p h f = absurd p
-  fetched_way (Fetched.Run i) p h f = rw (instruction_step i h f) (performed_way i h f)
+  fetched_way : (v : Result Instr Halt) → FetchHalts v → chosen t c ≡ Event.Instruction → fetch_of (pc_of c) m k ≡ v → HasWay (step_of t s m k)
+  fetched_way (Err Halt.FetchOutside) p h f = rw (halted_step Halt.FetchOutside h f) (by_fetch h f)
+  fetched_way (Err Halt.FetchMarked) p h f = rw (halted_step Halt.FetchMarked h f) (fetch_marked h f)
+  fetched_way (Err Halt.NoInstruction) p h f = rw (halted_step Halt.NoInstruction h f) (no_instruction h f)
+  fetched_way (Err Halt.MarkedOperand) p h f = absurd p
+  fetched_way (Err Halt.DataOutside) p h f = absurd p
+  fetched_way (Ok i) p h f = rw (instruction_step i h f) (performed_way i h f)
 
   pub way : HasWay (step_of t s m k)
   way = go (chosen t c) refl
@@ -386,7 +385,7 @@ module _ (t : ℕ) (s : State) (m : List ℕ) (k : Marks) where
   blocked_stops i true u e n q = refl
   blocked_stops i false u e n q = absurd (true≢false (sym q))
 
-  pub operand_stops : (i : Instr) → chosen t c ≡ Event.Instruction → fetch_of (pc_of c) m k ≡ Fetched.Run i → any_of (found i) (stop_from i) ≡ true
+  pub operand_stops : (i : Instr) → chosen t c ≡ Event.Instruction → fetch_of (pc_of c) m k ≡ Ok i → any_of (found i) (stop_from i) ≡ true
       → step_of t s m k ≡ stopped Reply.MarkedOperand
   unfolding act_of
   operand_stops i h f p =

@@ -1,11 +1,11 @@
 -- The faults behind refusals 1 to 6, in numbers (document 01, "Replies of a run"; document 02, ticket 7).
 -- Assumes nothing.
-use Rattle.std.specs.Prelude.{ℕ, ◌+◌, ◌*◌, ◌%◌, ◌<◌, ◌≤◌, ◌≡◌, true, List, length, get_or}
+use Rattle.std.specs.Prelude.{ℕ, ◌+◌, ◌*◌, ◌%◌, ◌<◌, ◌≤◌, ◌≡◌, true, List, length, get_or, Err, Ok, Result}
 use Rattle.word.specs.Bits.{on}
 use Rattle.cpu.specs.declared.Control.{Control}
 use Rattle.marks.specs.Memory.{bits, mark_at}
 use Rattle.instruction.specs.Reply.{number_of}
-use Rattle.machine.specs.declared.Judged.{Judged}
+use Rattle.instruction.specs.declared.Reply.{Reply}
 
 -- b is the budget, t the tape, c the state's control part, m memory, and k the slice of its marks
 pub data Fault (b : ℕ) (t : List ℕ) (c : Control) (m k : List ℕ) : ℕ → Type 0 where
@@ -30,6 +30,6 @@ pub data Fault (b : ℕ) (t : List ℕ) (c : Control) (m k : List ℕ) : ℕ →
   high_line : (i : ℕ) → i < b → 63 < get_or t i 0 → Fault b t c m k 6
 
 -- what is answered of faults: that with the lowest number, and none if there is none
-abbrev pub Lowest : (ℕ → Type 0) → Judged → Type 0
-Lowest F (Judged.Refused r) = F (number_of r) × ((n : ℕ) → n < number_of r → F n → ⊥)
-Lowest F Judged.Good = (n : ℕ) → F n → ⊥
+abbrev pub Lowest : (ℕ → Type 0) → Result Unit Reply → Type 0
+Lowest F (Err r) = F (number_of r) × ((n : ℕ) → n < number_of r → F n → ⊥)
+Lowest F (Ok _) = (n : ℕ) → F n → ⊥

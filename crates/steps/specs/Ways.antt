@@ -1,7 +1,7 @@
 -- The four ways in which a step completes, and what it does in each, in numbers and by the digits of the instruction's half (document 01, "One step" and "Marks";
 -- document 02, tickets 5 and 6).
 -- Assumes nothing.
-use Rattle.std.specs.Prelude.{ℕ, ◌+◌, ◌*◌, ◌-◌, ◌/◌, ◌%◌, ◌^◌, ◌<◌, ◌≤◌, ◌≡◌, Bool, true, false, cond, not, ◌&&◌, List, eqb, leb, ltb, length, get_or}
+use Rattle.std.specs.Prelude.{ℕ, ◌+◌, ◌*◌, ◌-◌, ◌/◌, ◌%◌, ◌^◌, ◌<◌, ◌≤◌, ◌≡◌, Bool, true, false, cond, not, ◌&&◌, List, eqb, leb, ltb, length, get_or, Err, None, Ok, Option, Some}
 use Rattle.word.specs.Bits.{on}
 use Rattle.word.specs.Bytes.{bytes_of, load, store}
 use Rattle.isa.specs.declared.Instr.{Instr}
@@ -14,16 +14,15 @@ use Rattle.cpu.specs.declared.Entry.{Entry}
 use Rattle.marks.specs.Memory.{Marks, mark_at, any_mark, bad_room}
 use Rattle.instruction.specs.Fetch.{half_at, fetch_of}
 use Rattle.instruction.specs.declared.Halt.{Halt}
-use Rattle.instruction.specs.declared.Fetched.{Fetched}
 use Rattle.machine.specs.Step.{chosen}
 use Rattle.machine.specs.declared.State.{State}
 use Rattle.machine.specs.declared.Event.{Event}
 use Rattle.machine.specs.declared.Done.{Done}
-use Rattle.machine.specs.declared.Data.{Data}
 use Rattle.machine.specs.declared.Line.{Line}
 use Rattle.sentences.specs.Classes.{class_of, cycles_of}
 use Rattle.sentences.specs.Sources.{Found, any_of, reg_from, tf_from, cy_from, stop_from}
 use Rattle.sentences.specs.Writes.{adds_cycles}
+use Rattle.word.specs.declared.ByteAddr.{ByteAddr}
 
 -- ---- what an instruction reaches beside the registers: nothing; n bytes of memory that it loads or stores, with the sum of base and
 -- offset before alignment; or a swint's entry
@@ -73,11 +72,11 @@ Inside (stores n y) size = down n y + n ≤ size
 Inside (raises n) size = Unit {0}
 
 -- the address that a line shows
-abbrev pub shown_at : Reaches → Data
-shown_at nothing = Data.Nowhere
-shown_at (loads n y) = Data.At (record { 0 = down n y })
-shown_at (stores n y) = Data.At (record { 0 = down n y })
-shown_at (raises n) = Data.Nowhere
+abbrev pub shown_at : Reaches → Option ByteAddr
+shown_at nothing = None
+shown_at (loads n y) = Some (record { 0 = down n y })
+shown_at (stores n y) = Some (record { 0 = down n y })
+shown_at (raises n) = None
 
 -- which of WP0 and WP1 hit: bits 1 and 2 of what a debug entry shows
 abbrev pub hit_by : Bool → Bool → Entry
@@ -156,15 +155,15 @@ effect_in i s m = exec i (get_or s.regs (rd_of s m) 0) (get_or s.regs (rb_of s m
 -- from state s, memory m and marks k on, with the tape's byte t: an entry is chosen; the fetch is outside memory; an instruction's data are; an instruction is done
 pub data Way (t : ℕ) (s : State) (m : List ℕ) (k : Marks) : Type 0 where
   by_choice : (e : Entry) → chosen t s.control ≡ Event.Enter e → Way t s m k
-  by_fetch : chosen t s.control ≡ Event.Instruction → fetch_of (pc_of s.control) m k ≡ Fetched.Halted Halt.FetchOutside → Way t s m k
-  by_data : (i : Instr) → chosen t s.control ≡ Event.Instruction → fetch_of (pc_of s.control) m k ≡ Fetched.Run i → Outside (reach_in i s m) (length m) → Way t s m k
-  by_instruction : (i : Instr) → chosen t s.control ≡ Event.Instruction → fetch_of (pc_of s.control) m k ≡ Fetched.Run i → Inside (reach_in i s m) (length m) → Way t s m k
+  by_fetch : chosen t s.control ≡ Event.Instruction → fetch_of (pc_of s.control) m k ≡ Err Halt.FetchOutside → Way t s m k
+  by_data : (i : Instr) → chosen t s.control ≡ Event.Instruction → fetch_of (pc_of s.control) m k ≡ Ok i → Outside (reach_in i s m) (length m) → Way t s m k
+  by_instruction : (i : Instr) → chosen t s.control ≡ Event.Instruction → fetch_of (pc_of s.control) m k ≡ Ok i → Inside (reach_in i s m) (length m) → Way t s m k
 
 module _ {t : ℕ} {s : State} {m : List ℕ} {k : Marks} where
   -- "the aligned data address": of a load or store that completes, and of one that is a bus error; no other step has one
-  abbrev pub address_in : Way t s m k → Data
-  address_in (by_choice e c) = Data.Nowhere
-  address_in (by_fetch c f) = Data.Nowhere
+  abbrev pub address_in : Way t s m k → Option ByteAddr
+  address_in (by_choice e c) = None
+  address_in (by_fetch c f) = None
   address_in (by_data i c f o) = shown_at (reach_in i s m)
   address_in (by_instruction i c f o) = shown_at (reach_in i s m)
 
@@ -233,7 +232,7 @@ pub record Does {t : ℕ} {s : State} {m : List ℕ} {k : Marks} (w : Way t s m 
 
 -- ---- why a step stops, by document 01's numbers: "instruction fetch from a marked byte", "bits that are no instruction", "a marked operand where none may be"
 pub data Stopped (t : ℕ) (s : State) (m : List ℕ) (k : Marks) : ℕ → Type 0 where
-  fetch_marked : chosen t s.control ≡ Event.Instruction → fetch_of (pc_of s.control) m k ≡ Fetched.Halted Halt.FetchMarked → Stopped t s m k 12
-  no_instruction : chosen t s.control ≡ Event.Instruction → fetch_of (pc_of s.control) m k ≡ Fetched.Halted Halt.NoInstruction → Stopped t s m k 13
-  marked_operand : (i : Instr) → chosen t s.control ≡ Event.Instruction → fetch_of (pc_of s.control) m k ≡ Fetched.Run i
+  fetch_marked : chosen t s.control ≡ Event.Instruction → fetch_of (pc_of s.control) m k ≡ Err Halt.FetchMarked → Stopped t s m k 12
+  no_instruction : chosen t s.control ≡ Event.Instruction → fetch_of (pc_of s.control) m k ≡ Err Halt.NoInstruction → Stopped t s m k 13
+  marked_operand : (i : Instr) → chosen t s.control ≡ Event.Instruction → fetch_of (pc_of s.control) m k ≡ Ok i
       → any_of (found_in i s m k) (stop_from i) ≡ true → Stopped t s m k 14

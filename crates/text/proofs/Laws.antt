@@ -1,21 +1,23 @@
 -- Laws that the functions' proofs cite: a list read from one place on.
 -- Assumes nothing.
+use Rattle.std.specs.Prelude.{None, Some}
 use Prim.Native.Nat.{ℕ, zero, suc, ◌+◌, ◌*◌, ◌-◌, ◌/◌, ◌%◌, ◌^◌, ◌<◌, ◌≤◌}
 use mathlib.Core.Path.{◌≡◌, refl, sym, ap, ap₂, subst, subst⁻¹, ◌∙◌}
-use mathlib.Core.Bool.{Bool, true, false, ◌&&◌}
+use mathlib.Core.Bool.{cond}
 use mathlib.Core.List.{List, [], ◌∷◌, ◌++◌}
 use native.Mathlib.Nat.{lt_irrefl, mul-le-mul_left}
 use native.Mathlib.Numerals.{add-one}
 use native.Mathlib.Omega.{arith}
 use lib.Arith.{digits_lt}
-use lib.Dec.{eqb}
-use borrow.Author.Tests.{lt-ltb, le-ltb, eq-eqb, ne_eqb}
-use lib.Pow.{pow-add, pow_mono}
-use lib.ListN.{length, get_or, take, drop, set, length-drop, drop_of_length-le}
-use lib.Seq.{take_all, append_snoc, drop-cons, lt-length-set, get_or-set_same, drop-set-lt}
+use lib.Dec.{eqb, ltb}
+use borrow.Author.Tests.{lt-ltb, le-ltb}
+use lib.Pow.{pow-add}
+use lib.ListN.{length, get_or, take, drop, set, drop_of_length-le}
+use lib.Seq.{append_snoc, drop-cons, lt-length-set, get_or-set_same, drop-set-lt}
+use Rattle.std.specs.List.{prefix_len, list_all}
+use Rattle.std.specs.Cmp.Lexicographic.{pointwise}
 use Rattle.text.specs.Digits.{value_of, glyph_of, digits_read, digits_in, digits_of, are_hex}
-use Rattle.text.specs.Fields.{tab_of, same_of}
-use Rattle.text.specs.declared.Read.{Read}
+use Rattle.text.specs.Fields.{same_of}
 
 module _ (l : List ℕ) (i : ℕ) (h : i < length l) where
   next : drop i l ≡ get_or l i 0 ∷ drop (i + 1) l
@@ -26,76 +28,15 @@ module _ (l : List ℕ) (i : ℕ) (h : i < length l) where
   unfolding digits_read
   number_on b v d e k = rw (next, ← e, lt-ltb d b k)
 
-  pub digits_on : (b n d : ℕ) → d ≡ value_of (get_or l i 0) → d < b → i < n → digits_in b (n - i) (drop i l) ≡ suc (digits_in b (n - (i + 1)) (drop (i + 1) l))
-  unfolding digits_in
-  digits_on b n d e k q =
-      let s : n - i ≡ suc (n - (i + 1)) = omega arith in
-      rw (s, next, ← e, lt-ltb d b k)
-
-  pub digits_stop : (b n d : ℕ) → d ≡ value_of (get_or l i 0) → b ≤ d → i < n → digits_in b (n - i) (drop i l) ≡ 0
-  unfolding digits_in
-  digits_stop b n d e k q =
-      let s : n - i ≡ suc (n - (i + 1)) = omega arith in
-      rw (s, next, ← e, le-ltb d b k)
-
-  pub number_stop : (b v d : ℕ) → d ≡ value_of (get_or l i 0) → b ≤ d → digits_read b v (drop i l) ≡ Read.Nothing
+  pub number_stop : (b v d : ℕ) → d ≡ value_of (get_or l i 0) → b ≤ d → digits_read b v (drop i l) ≡ None
   unfolding digits_read
   number_stop b v d e k = rw (next, ← e, le-ltb d b k)
 
-  pub hex_on : (d : ℕ) → d ≡ value_of (get_or l i 0) → d < 16 → are_hex (drop i l) ≡ are_hex (drop (i + 1) l)
-  unfolding are_hex
-  hex_on d e k = rw (next, ← e, lt-ltb d 16 k)
-
-  pub hex_stop : (d : ℕ) → d ≡ value_of (get_or l i 0) → 16 ≤ d → are_hex (drop i l) ≡ false
-  unfolding are_hex
-  hex_stop d e k = rw (next, ← e, le-ltb d 16 k)
-
-  pub tab_on : (get_or l i 0 ≡ 9 → ⊥) → tab_of (drop i l) ≡ tab_of (drop (i + 1) l) + 1
-  unfolding tab_of
-  tab_on k = rw (next, ne_eqb _ _ k) (sym (add-one _))
-
-  pub tab_stop : get_or l i 0 ≡ 9 → tab_of (drop i l) ≡ 0
-  unfolding tab_of
-  tab_stop k = rw (next, eq-eqb _ _ k)
-
-module _ (a b : List ℕ) (i : ℕ) (h : i < length a) (k : i < length b) where
-  pub same_on : get_or a i 0 ≡ get_or b i 0 → same_of (drop i a) (drop i b) ≡ same_of (drop (i + 1) a) (drop (i + 1) b)
-  unfolding same_of
-  same_on e = rw (next a i h, next b i k, eq-eqb _ _ e)
-
-  pub same_stop : (get_or a i 0 ≡ get_or b i 0 → ⊥) → same_of (drop i a) (drop i b) ≡ false
-  unfolding same_of
-  same_stop e = rw (next a i h, next b i k, ne_eqb _ _ e)
-
 -- and from the end on
 module _ (l : List ℕ) (i : ℕ) (h : length l ≤ i) where
-  pub number_none : (b v : ℕ) → digits_read b v (drop i l) ≡ Read.Number v
+  pub number_none : (b v : ℕ) → digits_read b v (drop i l) ≡ Some v
   unfolding digits_read
   number_none b v = rw (drop_of_length-le l h)
-
-  pub tab_none : tab_of (drop i l) ≡ 0
-  unfolding tab_of
-  tab_none = rw (drop_of_length-le l h)
-
-  pub hex_none : are_hex (drop i l) ≡ true
-  unfolding are_hex
-  hex_none = rw (drop_of_length-le l h)
-
-pub same_none : (a b : List ℕ) (i : ℕ) → length a ≤ i → length b ≤ i → same_of (drop i a) (drop i b) ≡ true
-unfolding same_of
-same_none a b i h k = rw (drop_of_length-le a h, drop_of_length-le b k)
-
--- texts of unequal lengths differ
-pub same_length : (a b : List ℕ) → (length a ≡ length b → ⊥) → same_of a b ≡ false
-unfolding same_of
-same_length [] [] h = absurd (h refl)
-same_length [] (y ∷ b) h = refl
-same_length (x ∷ a) [] h = refl
-same_length (x ∷ a) (y ∷ b) h = rw (same_length a b (λ e. h (ap suc e))) (go (eqb x y))
-  where
-    go : (t : Bool) → (t && false) ≡ false
-    go true = refl
-    go false = refl
 
 -- one digit more
 pub digit_more : (base i v d : ℕ) → base ≤ 16 → v < 2 ^ (4 * i) → d < base → v * base + d < 2 ^ (4 * (i + 1))
@@ -130,34 +71,21 @@ spell_none base i n out h =
     let e : i ≡ 0 = omega arith in
     rw e
 
--- eight digits fit a word
-pub digit_fits : (base i v d : ℕ) → base ≤ 16 → v < 2 ^ (4 * i) → d < base → i < 8 → v * base + d < 4294967296
-digit_fits base i v d hb h hd hi =
-    let q : 2 ^ (4 * (i + 1)) ≤ 2 ^ 32 = pow_mono {j = 32} (omega arith) in
-    omega (arith, digit_more base i v d hb h hd)
+-- in the library's words
+pub hex_is : (l : List ℕ) → are_hex l ≡ list_all (λ c. ltb (value_of c) 16) l
+unfolding are_hex
+hex_is [] = refl
+hex_is (c ∷ l) = rw (hex_is l)
 
--- past the end there is nothing, from the end on and beyond it
-pub drop_end : (l : List ℕ) (i : ℕ) → length l ≤ i → drop i l ≡ drop (i + 1) l
-drop_end l i h = drop_of_length-le l h ∙ sym (drop_of_length-le l {i = i + 1} (omega arith))
-
--- a slice from one place to the end
-pub rest_of : (l : List ℕ) (i : ℕ) → take (length l - i) (drop i l) ≡ drop i l
-rest_of l i = take_all (length l - i) (drop i l) (rw length-drop (omega arith))
-
--- no digit is left: the bytes, or the first n of them, are used up
-pub digits_most : (b n i : ℕ) (l : List ℕ) → n ≤ i → digits_in b (n - i) (drop i l) ≡ 0
+pub digits_is : (b n : ℕ) (l : List ℕ) → digits_in b n l ≡ prefix_len (λ c. ltb (value_of c) b) (take n l)
 unfolding digits_in
-digits_most b n i l h =
-    let s : n - i ≡ 0 = omega arith in
-    rw s
+digits_is b zero l = refl
+digits_is b (suc n) [] = refl
+digits_is b (suc n) (c ∷ l) = ap (λ (k : ℕ). cond (ltb (value_of c) b) (suc k) 0) (digits_is b n l) ∙ ap (λ (k : ℕ). cond (ltb (value_of c) b) k 0) (omega arith)
 
-pub digits_none : (b n i : ℕ) (l : List ℕ) → length l ≤ i → digits_in b n (drop i l) ≡ 0
-unfolding digits_in
-digits_none b zero i l h = refl
-digits_none b (suc n) i l h = rw (drop_of_length-le l h)
-
--- nothing is counted yet
-pub digits_start : (b n : ℕ) (l : List ℕ) → 0 + digits_in b (n - 0) (drop 0 l) ≡ digits_in b n l
-digits_start b n l =
-    let s : n - 0 ≡ n = omega arith in
-    rw s (omega arith)
+pub same_is : (a b : List ℕ) → same_of a b ≡ pointwise eqb a b
+unfolding same_of
+same_is [] [] = refl
+same_is [] (y ∷ b) = refl
+same_is (x ∷ a) [] = refl
+same_is (x ∷ a) (y ∷ b) = rw (same_is a b)

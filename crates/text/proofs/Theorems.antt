@@ -1,5 +1,6 @@
 -- What is written reads back as the number that it was written for, so two numbers never share a text.
 -- Assumes nothing.
+use Rattle.std.specs.Prelude.{None, Some}
 use Prim.Native.Nat.{ℕ, zero, suc, ◌+◌, ◌*◌, ◌-◌, ◌/◌, ◌%◌, ◌^◌, ◌<◌, ◌≤◌}
 use mathlib.Core.Path.{◌≡◌, refl, sym, ap, ap₂, subst, ◌∙◌}
 use mathlib.Core.Bool.{Bool, true, false, cond}
@@ -12,7 +13,6 @@ use lib.ListN.{length, drop, replicate, length-append, length-drop, length-repli
 use lib.Seq.{drop-append-le}
 use borrow.Author.Tests.{ltb-true, ltb-false, lt-ltb, le-ltb, le-leb, eqb-true}
 use Rattle.text.specs.Digits.{value_of, glyph_of, digits_read, digits_of, leading_zero, decimal_of, zeros_of, address_of, pair_of, hex_text, decimal_text}
-use Rattle.text.specs.declared.Read.{Read}
 
 -- a digit is worth the number that it was written for
 value_glyph : (d : ℕ) → d < 16 → value_of (glyph_of d) ≡ d
@@ -28,17 +28,17 @@ value_glyph d h = go (ltb d 10) refl
         rw (le-ltb (87 + d) 48 (omega arith), le-ltb (87 + d) 58 (omega arith), le-ltb (87 + d) 97 (omega arith), lt-ltb (87 + d) 103 (omega arith)) (omega arith)
 
 -- one digit more is read
-number_snoc : (base v u d : ℕ) (l : List ℕ) → digits_read base v l ≡ Read.Number u → value_of d < base
-    → digits_read base v (l ++ (d ∷ [])) ≡ Read.Number (u * base + value_of d)
+number_snoc : (base v u d : ℕ) (l : List ℕ) → digits_read base v l ≡ Some u → value_of d < base
+    → digits_read base v (l ++ (d ∷ [])) ≡ Some (u * base + value_of d)
 unfolding digits_read
 number_snoc base v u d [] e h =
     let q : v ≡ u = cc in
     rw (lt-ltb _ _ h, q)
 number_snoc base v u d (c ∷ l) e h = go (ltb (value_of c) base) e (number_snoc base (v * base + value_of c) u d l)
   where
-    go : (t : Bool) → cond t (digits_read base (v * base + value_of c) l) Read.Nothing ≡ Read.Number u
-        → (digits_read base (v * base + value_of c) l ≡ Read.Number u → value_of d < base → digits_read base (v * base + value_of c) (l ++ (d ∷ [])) ≡ Read.Number (u * base + value_of d))
-        → cond t (digits_read base (v * base + value_of c) (l ++ (d ∷ []))) Read.Nothing ≡ Read.Number (u * base + value_of d)
+    go : (t : Bool) → cond t (digits_read base (v * base + value_of c) l) None ≡ Some u
+        → (digits_read base (v * base + value_of c) l ≡ Some u → value_of d < base → digits_read base (v * base + value_of c) (l ++ (d ∷ [])) ≡ Some (u * base + value_of d))
+        → cond t (digits_read base (v * base + value_of c) (l ++ (d ∷ []))) None ≡ Some (u * base + value_of d)
     go true q f = f q h
     go false q f = let z : ◌≡◌ {A = ℕ} 0 1 = cc in absurd (omega arith)
 
@@ -57,22 +57,22 @@ module _ (base : ℕ) (low : 0 < base) (high : base ≤ 16) where
   digit n = value_glyph (n % base) (omega (arith, mod-lt n low))
 
   -- the digits of n, after a number v
-  after : (w n v : ℕ) → n < base ^ w → digits_read base v (digits_of base w n) ≡ Read.Number (v * base ^ w + n)
+  after : (w n v : ℕ) → n < base ^ w → digits_read base v (digits_of base w n) ≡ Some (v * base ^ w + n)
   unfolding digits_read digits_of
   after zero n v h =
       let one : n < 1 = rw pow-zero at h in
       let e : v ≡ v * 1 + n = omega (arith, one) in
-      rw pow-zero (ap Read.Number e)
+      rw pow-zero (ap Some e)
   after (suc w) n v h =
       number_snoc base v (v * base ^ w + n / base) (glyph_of (n % base)) (digits_of base w (n / base)) (after w (n / base) v (smaller w n h))
       (subst (λ (x : ℕ). x < base) (sym (digit n)) (mod-lt n low))
-      ∙ ap Read.Number (ap (λ (x : ℕ). (v * base ^ w + n / base) * base + x) (digit n) ∙ rw pow-suc (joined v (base ^ w) (n / base) base (n % base) n (div-add-mod' n base)))
+      ∙ ap Some (ap (λ (x : ℕ). (v * base ^ w + n / base) * base + x) (digit n) ∙ rw pow-suc (joined v (base ^ w) (n / base) base (n % base) n (div-add-mod' n base)))
 
   -- w digits of n read as n
-  pub read_written : (w n : ℕ) → n < base ^ w → digits_read base 0 (digits_of base w n) ≡ Read.Number n
+  pub read_written : (w n : ℕ) → n < base ^ w → digits_read base 0 (digits_of base w n) ≡ Some n
   read_written w n h =
       let e : 0 * base ^ w + n ≡ n = omega (arith, zero-mul (base ^ w)) in
-      after w n 0 h ∙ ap Read.Number e
+      after w n 0 h ∙ ap Some e
 
   -- two numbers never share their digits
   pub digits_differ : (w n m : ℕ) → n < base ^ w → m < base ^ w → digits_of base w n ≡ digits_of base w m → n ≡ m
@@ -101,7 +101,7 @@ digits_length base zero n = refl
 digits_length base (suc w) n = rw (length-append, digits_length base w (n / base)) (omega arith)
 
 -- an address
-pub address_reads : (n : ℕ) → n < 2 ^ 32 → address_of (hex_text n) ≡ Read.Number n
+pub address_reads : (n : ℕ) → n < 2 ^ 32 → address_of (hex_text n) ≡ Some n
 address_reads n h = rw (digits_length 16 8 n) (read_written 16 (omega arith) (omega arith) 8 n h)
 
 -- a byte
@@ -183,7 +183,7 @@ decimal_some n =
     let f : zeros_of (digits_of 10 20 n) < length (digits_of 10 20 n) = fewer (digits_of 10 20 n) (rw (twenty n) (omega arith)) in
     rw length-drop (omega arith)
 
-pub read_decimal : (n : ℕ) → n < 10 ^ 20 → digits_read 10 0 (decimal_text n) ≡ Read.Number n
+pub read_decimal : (n : ℕ) → n < 10 ^ 20 → digits_read 10 0 (decimal_text n) ≡ Some n
 read_decimal n h = zeros_free 10 (omega arith) (omega arith) (digits_of 10 20 n) ∙ read_written 10 (omega arith) (omega arith) 20 n h
 
 -- a digit after a text that is not all zeros leads nothing
@@ -249,7 +249,7 @@ decimal_two n low high =
     decimal_more n (omega arith) low ∙ ap (λ (l : List ℕ). l ++ (glyph_of (n % 10) ∷ [])) (decimal_one (n / 10) (omega arith) (omega arith))
 
 -- a decimal of up to five digits reads back
-pub decimal_reads : (n : ℕ) → n < 100000 → decimal_of (decimal_text n) ≡ Read.Number n
+pub decimal_reads : (n : ℕ) → n < 100000 → decimal_of (decimal_text n) ≡ Some n
 decimal_reads n h =
     rw (le-leb 1 _ (decimal_some n), le-leb _ _ (decimal_length 5 n (omega arith) (omega arith) h), unled (digits_of 10 20 n)) (read_decimal n (omega arith))
 

@@ -1,8 +1,7 @@
 -- Digits and numbers (document 01, "Written form in our tools": "lower-case hex", "decimals without leading zeros"), once over the base.
 -- Assumes nothing.
-use Rattle.std.specs.Prelude.{ℕ, zero, suc, ◌+◌, ◌-◌, ◌*◌, ◌/◌, ◌%◌, ◌^◌, Bool, true, cond, ◌&&◌, List, [], ◌∷◌, ◌++◌, ltb, leb, eqb, length, get_or, drop}
+use Rattle.std.specs.Prelude.{ℕ, zero, suc, ◌+◌, ◌-◌, ◌*◌, ◌/◌, ◌%◌, ◌^◌, Bool, true, cond, ◌&&◌, List, [], ◌∷◌, ◌++◌, ltb, leb, eqb, length, get_or, drop, None, Option, Some}
 use Rattle.text.specs.Words.{ascii}
-use Rattle.text.specs.declared.Read.{Read}
 
 -- what a byte is worth as a digit, `0` to `9` and `a` to `f`; 16 for any other byte
 unfoldable pub value_of : ℕ → ℕ
@@ -17,9 +16,9 @@ abbrev pub glyphs : List ℕ
 glyphs = ascii "0123456789abcdef"
 
 -- the number that digits of a base write after v, or nothing if a byte is no such digit
-unfoldable pub digits_read : ℕ → ℕ → List ℕ → Read
-digits_read base v [] = Read.Number v
-digits_read base v (c ∷ l) = cond (ltb (value_of c) base) (digits_read base (v * base + value_of c) l) Read.Nothing
+unfoldable pub digits_read : ℕ → ℕ → List ℕ → Option ℕ
+digits_read base v [] = Some v
+digits_read base v (c ∷ l) = cond (ltb (value_of c) base) (digits_read base (v * base + value_of c) l) None
 
 -- how many digits of a base lead, of the first n bytes
 unfoldable pub digits_in : ℕ → ℕ → List ℕ → ℕ
@@ -40,8 +39,8 @@ leading_zero l = ltb 1 (length l) && eqb (get_or l 0 0) 48
 abbrev pub is_short : List ℕ → Bool
 is_short l = leb 1 (length l) && leb (length l) 5
 
-abbrev pub decimal_of : List ℕ → Read
-decimal_of l = cond (is_short l) (cond (leading_zero l) Read.Nothing (digits_read 10 0 l)) Read.Nothing
+abbrev pub decimal_of : List ℕ → Option ℕ
+decimal_of l = cond (is_short l) (cond (leading_zero l) None (digits_read 10 0 l)) None
 
 -- how many zeros lead, before the last digit
 unfoldable pub zeros_of : List ℕ → ℕ
@@ -51,8 +50,8 @@ zeros_of (c ∷ d ∷ l) = cond (eqb c 48) (suc (zeros_of (d ∷ l))) 0
 
 -- ---- hex: an address, "8 hex digits", and bytes, two digits each
 
-abbrev pub address_of : List ℕ → Read
-address_of l = cond (eqb (length l) 8) (digits_read 16 0 l) Read.Nothing
+abbrev pub address_of : List ℕ → Option ℕ
+address_of l = cond (eqb (length l) 8) (digits_read 16 0 l) None
 
 unfoldable pub are_hex : List ℕ → Bool
 are_hex [] = true

@@ -9,183 +9,114 @@ mod writing;
 
 pub use writing::{put, put_all, put_half, put_hex, put_number, put_signed};
 
-// What a field says.
-#[derive(Clone, Copy)]
-pub enum Read {
-    Number(u32),
-    Nothing,
-}
-
 // ---- parts and fields
 
 // The first n bytes, or all where there are fewer.
 pub fn start_part(l: &[u8], n: usize) -> &[u8]
     ensures { result.now ≡ take n l.now }
 {
-    if n < l.len() {
-        return &l[..n];
-    }
-    l
+    &l[..n.min(l.len())]
 }
 
 // What stands beyond the first n bytes.
 pub fn end_part(l: &[u8], n: usize) -> &[u8]
     ensures { result.now ≡ drop n l.now }
 {
-    if n < l.len() {
-        return &l[n..];
-    }
-    let end = l.len();
-    &l[end..]
+    &l[n.min(l.len())..]
 }
 
 fn tab_in(l: &[u8]) -> usize
-    ensures { (result ≡ tab_of l.now) × (result ≤ length l.now) }
+    ensures place { result ≡ tab_of l.now }
+    ensures within { result ≤ length l.now }
 {
-    let mut i: usize = 0;
-    while i < l.len() {
-        if l[i] == 9 {
-            return i;
-        }
-        i += 1;
-    }
-    i
+    l.iter().position(|c| *c == b'\t').unwrap_or(l.len())
 }
 
 pub fn before(l: &[u8]) -> &[u8]
     ensures { result.now ≡ before_of l.now }
 {
-    let t = tab_in(l);
-    &l[..t]
+    &l[..tab_in(l)]
 }
 
 pub fn beyond(l: &[u8]) -> &[u8]
     ensures { result.now ≡ beyond_of l.now }
 {
-    let t = tab_in(l);
-    if t < l.len() {
-        let next = t + 1;
-        return &l[next..];
-    }
-    &l[t..]
+    end_part(l, tab_in(l) + 1)
 }
 
+#[tactic(auto, using(crate::proofs::Laws::same_is))]
 pub fn is_same(a: &[u8], b: &[u8]) -> bool
     ensures { result ≡ same_of a.now b.now }
 {
-    let n = b.len();
-    if a.len() != n {
-        return false;
-    }
-    let mut i: usize = 0;
-    while i < n {
-        let x = b[i];
-        if a[i] != x {
-            return false;
-        }
-        i += 1;
-    }
-    true
+    a == b
 }
 
 // ---- digits read
 
+#[tactic(auto, using(std::proofs::lemmas::Bool::Decides::nat_tests), unfolding(crate::specs::Digits::value_of))]
 pub fn value(c: u8) -> u32
     ensures { (result ≡ value_of c) × (result ≤ 16) }
 {
-    if c < 48 {
-        return 16;
+    match c {
+        b'0'..=b'9' => u32::from(c - b'0'),
+        b'a'..=b'f' => u32::from(c - b'a' + 10),
+        _ => 16,
     }
-    if c < 58 {
-        return (c - 48) as u32;
-    }
-    if c < 97 {
-        return 16;
-    }
-    if c < 103 {
-        return (c - 87) as u32;
-    }
-    16
 }
 
-fn number(base: u32, l: &[u8]) -> Read
+fn number(base: u32, l: &[u8]) -> Option<u32>
     requires { (base ≤ 16) × (length l.now ≤ 8) }
     ensures { result ≡ digits_read base 0 l.now }
 {
     let mut v: u64 = 0;
-    let mut i: usize = 0;
-    while i < l.len() {
-        let d = value(l[i]);
+    for c in l {
+        let d = value(*c);
         if base <= d {
-            return Read::Nothing;
+            return None;
         }
         v = v * base as u64 + d as u64;
-        i += 1;
     }
-    Read::Number(v as u32)
+    Some(v as u32)
 }
 
 // How far digits of a base reach, among the first `most` bytes.
 pub fn digits_in(base: u32, most: usize, l: &[u8]) -> usize
     ensures { (result ≡ digits_in base most l.now) × (result ≤ most) }
 {
-    let mut i: usize = 0;
-    while i < l.len() {
-        if most <= i {
-            return i;
-        }
-        if base <= value(l[i]) {
-            return i;
-        }
-        i += 1;
-    }
-    i
+    l.iter()
+        .take(most)
+        .take_while(|c| value(**c) < base)
+        .count()
 }
 
 pub fn has_leading_zero(l: &[u8]) -> bool
     ensures { result ≡ leading_zero l.now }
 {
-    if 1 < l.len() {
-        return l[0] == 48;
-    }
-    false
+    l.len() > 1 && l[0] == b'0'
 }
 
-pub fn decimal(l: &[u8]) -> Read
+pub fn decimal(l: &[u8]) -> Option<u32>
     ensures { result ≡ decimal_of l.now }
 {
-    if 1 <= l.len() {
-        if l.len() <= 5 {
-            if has_leading_zero(l) {
-                return Read::Nothing;
-            }
-            return number(10, l);
-        }
-        return Read::Nothing;
+    if l.is_empty() || l.len() > 5 || has_leading_zero(l) {
+        return None;
     }
-    Read::Nothing
+    number(10, l)
 }
 
-pub fn address(l: &[u8]) -> Read
+pub fn address(l: &[u8]) -> Option<u32>
     ensures { result ≡ address_of l.now }
 {
-    if l.len() == 8 {
-        return number(16, l);
+    if l.len() != 8 {
+        return None;
     }
-    Read::Nothing
+    number(16, l)
 }
 
 pub fn are_hex(l: &[u8]) -> bool
     ensures { result ≡ are_hex l.now }
 {
-    let mut i: usize = 0;
-    while i < l.len() {
-        if 16 <= value(l[i]) {
-            return false;
-        }
-        i += 1;
-    }
-    true
+    l.iter().all(|c| value(*c) < 16)
 }
 
 pub fn pair(c: u8, d: u8) -> u8
@@ -196,11 +127,16 @@ pub fn pair(c: u8, d: u8) -> u8
 
 // ---- digits written
 
+#[tactic(auto, using(std::proofs::lemmas::Bool::Decides::nat_tests), unfolding(crate::specs::Digits::glyph_of))]
 fn glyph(d: u64) -> u8
     requires { d < 16 }
     ensures { result ≡ glyph_of d }
 {
-    if d < 10 { 48 + d as u8 } else { 87 + d as u8 }
+    if d < 10 {
+        b'0' + d as u8
+    } else {
+        b'a' + (d - 10) as u8
+    }
 }
 
 pub fn glyph_table() -> [u8; 16]
@@ -221,27 +157,29 @@ fn spell(base: u64, n: u64, out: &mut [u8])
     requires { (1 < base) × (base ≤ 16) }
     ensures { out.new ≡ digits_of base (length out.old) n }
 {
-    let mut i = out.len();
     let mut rest = n;
-    while 0 < i {
-        i -= 1;
+    for i in (0..out.len()).rev() {
         out[i] = glyph(rest % base);
-        rest = rest / base;
+        rest /= base;
     }
+}
+
+fn hex_digits<const N: usize>(n: u64) -> [u8; N]
+    ensures { result ≡ digits_of 16 N n }
+{
+    let mut digits = [0u8; N];
+    spell(16, n, &mut digits);
+    digits
 }
 
 pub fn hex(n: u32) -> [u8; 8]
     ensures { result ≡ hex_text n }
 {
-    let mut digits = [0u8; 8];
-    spell(16, n as u64, &mut digits);
-    digits
+    hex_digits(n as u64)
 }
 
 pub fn half_hex(n: u16) -> [u8; 4]
     ensures { result ≡ half_text n }
 {
-    let mut digits = [0u8; 4];
-    spell(16, n as u64, &mut digits);
-    digits
+    hex_digits(n as u64)
 }

@@ -1,5 +1,6 @@
 -- What an instruction shows is the line of its step.
 -- Assumes nothing.
+use Rattle.std.specs.Prelude.{Option}
 use Prim.Native.Nat.{ℕ}
 use mathlib.Core.Path.{◌≡◌, refl}
 use mathlib.Core.List.{List}
@@ -14,18 +15,18 @@ use Rattle.instruction.specs.declared.Act.{Act}
 use Rattle.machine.specs.State.{value_at}
 use Rattle.machine.specs.Step.{data_of, halt_step, act_step, instr_step}
 use Rattle.machine.specs.declared.State.{State}
-use Rattle.machine.specs.declared.Data.{Data}
 use Rattle.trace.specs.Seen.{seen_in}
 use Rattle.trace.specs.Parts.{seen_halt, seen_act}
+use Rattle.word.specs.declared.ByteAddr.{ByteAddr}
 
-pub seen_halt_lem : (h : Halt) (a : Data) (f : Flags) (c : Control) (m : List ℕ) (k : Marks) → seen_halt h a c ≡ seen_in (halt_step h a f c m k)
+pub seen_halt_lem : (h : Halt) (a : Option ByteAddr) (f : Flags) (c : Control) (m : List ℕ) (k : Marks) → seen_halt h a c ≡ seen_in (halt_step h a f c m k)
 seen_halt_lem Halt.FetchOutside a f c m k = refl
 seen_halt_lem Halt.FetchMarked a f c m k = refl
 seen_halt_lem Halt.NoInstruction a f c m k = refl
 seen_halt_lem Halt.MarkedOperand a f c m k = refl
 seen_halt_lem Halt.DataOutside a f c m k = refl
 
-seen_act_lem : (q : Act) (a : Data) (x : Val) (f : Flags) (c : Control) (m : List ℕ) (k : Marks) → seen_act q a c ≡ seen_in (act_step q a x f c m k)
+seen_act_lem : (q : Act) (a : Option ByteAddr) (x : Val) (f : Flags) (c : Control) (m : List ℕ) (k : Marks) → seen_act q a c ≡ seen_in (act_step q a x f c m k)
 seen_act_lem (Act.Halted h) a x f c m k = seen_halt_lem h a f c m k
 seen_act_lem (Act.Does e t r) a x f c m k = refl
 

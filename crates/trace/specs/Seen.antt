@@ -1,8 +1,9 @@
 -- What a step shows: its line if it is completed, nothing if it stops.
 -- Assumes nothing.
+use Rattle.std.specs.Prelude.{None, Option, Some}
 use Rattle.machine.specs.Step.{Stepped, stopped, completed}
-use Rattle.trace.specs.declared.Seen.{Seen}
+use Rattle.machine.specs.declared.Line.{Line}
 
-abbrev pub seen_in : Stepped → Seen
-seen_in (stopped r) = Seen.Nothing
-seen_in (completed d m k x) = Seen.Step x
+abbrev pub seen_in : Stepped → Option Line
+seen_in (stopped r) = None
+seen_in (completed d m k x) = Some x

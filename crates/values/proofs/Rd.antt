@@ -1,5 +1,6 @@
 -- The register that an instruction writes, by the bits of its first half.
 -- Assumes nothing.
+use Rattle.std.specs.Prelude.{Some}
 use Prim.Native.Nat.{ℕ, ◌/◌, ◌%◌, ◌<◌}
 use mathlib.Core.Path.{◌≡◌, refl}
 use mathlib.Core.Bool.{Bool, true, false, cond, beq, false≢true, ◌&&◌}
@@ -47,7 +48,7 @@ none n false e = refl
 
 module _ (h s x y v : ℕ) (c : Control) where
   -- bits without a meaning are zero, or there is no instruction
-  only : (t : Bool) (i : Instr) → RdOf (Decoded.Short i) h x y v c → RdOf (short_if t i) h x y v c
+  only : (t : Bool) (i : Instr) → RdOf (Some (Decoded.Short i)) h x y v c → RdOf (short_if t i) h x y v c
   only true i p = p
   only false i p = tt
 

@@ -1,6 +1,6 @@
 -- Words that the theorems of this crate are stated in (proofs/Theorems.antt has the statements): bits and numbers, and `exec`, which they judge.
 -- Assumes nothing.
-use Rattle.std.specs.Prelude.{ℕ, ◌+◌, ◌*◌, ◌-◌, ◌/◌, ◌%◌, ◌^◌, min, ◌≤◌, ◌<◌, ◌≡◌, Bool, true, false, cond, not, ◌&&◌, ◌||◌, ltb, leb, eqb}
+use Rattle.std.specs.Prelude.{ℕ, ◌+◌, ◌*◌, ◌-◌, ◌/◌, ◌%◌, ◌^◌, min, ◌≤◌, ◌<◌, ◌≡◌, Bool, true, false, cond, not, ◌&&◌, ◌||◌, ltb, leb, eqb, None, Option, Some}
 use Rattle.word.specs.declared.HalfDisp.{HalfDisp}
 use Rattle.isa.specs.Codes.{alu_no, long_no}
 use Rattle.isa.specs.declared.AluOp.{AluOp}
@@ -129,10 +129,10 @@ abbrev pub writes_rd : ℕ → ℕ → Bool
 writes_rd a b = cond (eqb a 1) (eqb b 2) (cond (eqb a 3) (leb 8 b) (leb a 8 || (eqb a 0xa || eqb a 0xc)))
 
 -- the register that an instruction of first half h writes; 16 is none
-abbrev pub RdOf : Decoded → ℕ → ℕ → ℕ → ℕ → Control → Type 0
-RdOf (Decoded.Short i) h x y v c = (exec i x y v c).reg ≡ cond (writes_rd (h / 4096) (h / 256 % 16)) (h / 16 % 16) 16
-RdOf (Decoded.Long i) h x y v c = (exec i x y v c).reg ≡ 16
-RdOf Decoded.Nothing h x y v c = Unit {0}
+abbrev pub RdOf : Option Decoded → ℕ → ℕ → ℕ → ℕ → Control → Type 0
+RdOf (Some (Decoded.Short i)) h x y v c = (exec i x y v c).reg ≡ cond (writes_rd (h / 4096) (h / 256 % 16)) (h / 16 % 16) 16
+RdOf (Some (Decoded.Long i)) h x y v c = (exec i x y v c).reg ≡ 16
+RdOf None h x y v c = Unit {0}
 
 -- from c to n nothing changed but the program counter, SFR k, and "timer pending" if that is TIMER, SFR 3. The theorem mfsfr_by_number says which SFR has which
 -- number

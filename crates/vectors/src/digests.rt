@@ -1,52 +1,38 @@
 // The digests of bytes, and of a step's line.
 use cpu::Entry;
-use digest::fold;
-use machine::Data;
-use trace::Seen;
-
-pub fn wide(x: u8) -> u32 {
-    x as u32
-}
+use digest::{fold, fold_bytes};
+use machine::Line;
+use word::ByteAddr;
 
 pub fn digest_of(m: &[u8]) -> u64 {
-    digest::fold_bytes(1, m)
+    fold_bytes(1, m)
 }
 
 fn folded_word(d: u64, x: u32) -> u64 {
-    let a = fold(d, x / 16777216);
-    let b = fold(a, x / 65536 % 256);
-    let c = fold(b, x / 256 % 256);
-    fold(c, x % 256)
+    fold_bytes(d, &x.to_be_bytes())
 }
 
 // A step's line folds in eleven bytes.
 fn folded_entry(d: u64, e: Entry) -> u64 {
-    match e {
-        Entry::Nothing => fold(fold(d, 45), 0),
-        Entry::Swint(n) => fold(fold(d, 115), n),
-        Entry::Debug(hit) => fold(fold(d, 100), hit),
-        Entry::Timer => fold(fold(d, 116), 0),
-        Entry::External(i) => fold(fold(d, 101), i),
-        Entry::FetchError => fold(fold(d, 98), 0),
-        Entry::DataError => fold(fold(d, 98), 0),
-    }
+    let (kind, n) = match e {
+        Entry::Nothing => (b'-', 0),
+        Entry::Swint(n) => (b's', n),
+        Entry::Debug(hit) => (b'd', hit),
+        Entry::Timer => (b't', 0),
+        Entry::External(i) => (b'e', i),
+        Entry::FetchError | Entry::DataError => (b'b', 0),
+    };
+    fold(fold(d, u32::from(kind)), n)
 }
 
-fn folded_data(d: u64, a: Data) -> u64 {
+fn folded_data(d: u64, a: Option<ByteAddr>) -> u64 {
     match a {
-        Data::Nowhere => folded_word(fold(d, 0), 0),
-        Data::At(at) => folded_word(fold(d, 1), at.0),
+        Some(at) => folded_word(fold(d, 1), at.0),
+        None => folded_word(fold(d, 0), 0),
     }
 }
 
-pub fn folded_line(d: u64, s: Seen) -> u64 {
-    match s {
-        Seen::Nothing => d,
-        Seen::Step(line) => {
-            let pc = line.pc;
-            let entry = line.entry;
-            let address = line.address;
-            folded_data(folded_entry(folded_word(d, pc.0), entry), address)
-        }
-    }
+pub fn folded_line(d: u64, line: Line) -> u64 {
+    let started = folded_word(d, line.pc.0);
+    folded_data(folded_entry(started, line.entry), line.address)
 }

@@ -1,32 +1,53 @@
 // Reads the cases of docs/CORPUS.md, "The assembler", assembles each through the proved library, and writes one line for each.
 #![tactic(auto)]
 
-mod lines;
-
-use crate::lines::write_line;
 use reading::read_full;
 use std::io;
 use std::io::Read;
 use word::{ByteAddr, Width};
 
-// The two parts have the lengths that the case gives them.
-fn answer_case(
-    rt: &impl Print,
-    input: &mut impl Read,
-    text: &mut [u8],
-    start: usize,
-    image: &mut [u8],
-) -> io::Result<()> {
-    read_full(input, text)?;
-    read_full(input, image)?;
+// A case's sizes, its text, and the image that it is assembled into.
+#[derive(Drop)]
+struct Rooms {
+    sizes: [u8; 16],
+    text: [u8; 16384],
+    image: [u8; 4096],
+}
+
+impl Rooms {
+    // Whether the case keeps to the limits of docs/CORPUS.md. One that doesn't is not answered.
+    fn answer_case(&mut self, rt: &impl Print, input: &mut impl Read) -> io::Result<bool> {
+        let t = word_at(&self.sizes, 0) as usize;
+        let n = word_at(&self.sizes, 4) as usize;
+        let start = start_in(&self.sizes);
+        if self.text.len() < t || self.image.len() < n {
+            return Ok(false);
+        }
+        read_full(input, &mut self.text[..t])?;
+        read_full(input, &mut self.image[..n])?;
+        let image = &mut self.image[..];
+        assemble(rt, &self.text[..t], start, &mut image[..n])?;
+        Ok(true)
+    }
+
+    // At most 100,000 cases, so that the loop ends.
+    fn answer_all(&mut self, rt: &impl Print, input: &mut impl Read) -> io::Result<()> {
+        for _ in 0..100000 {
+            if read_full(input, &mut self.sizes)? < 16 || !self.answer_case(rt, input)? {
+                return Ok(());
+            }
+        }
+        Ok(())
+    }
+}
+
+fn assemble(rt: &impl Print, text: &[u8], start: usize, image: &mut [u8]) -> io::Result<()> {
     let a = asm::assemble(text, start, image);
-    write_line(
-        rt,
-        asm::reply(a),
-        asm::line(a),
-        asm::end(a),
-        digest::fold_bytes(1, image),
-    )
+    let reply = asm::reply(a);
+    let line = asm::line(a);
+    let end = asm::end(a);
+    let made = digest::fold_bytes(1, image);
+    println!(rt; "{reply}\t{line}\t{end}\t{made}")
 }
 
 fn word_at(sizes: &[u8], at: u32) -> u32 {
@@ -37,50 +58,11 @@ fn start_in(sizes: &[u8]) -> usize {
     word_at(sizes, 8) as usize * 4294967296 + word_at(sizes, 12) as usize
 }
 
-// Whether the case keeps to the limits of docs/CORPUS.md. One that doesn't is not answered.
-fn one_case(
-    rt: &impl Print,
-    input: &mut impl Read,
-    sizes: &[u8],
-    text: &mut [u8],
-    image: &mut [u8],
-) -> io::Result<bool> {
-    let t = word_at(sizes, 0) as usize;
-    let n = word_at(sizes, 4) as usize;
-    if text.len() < t {
-        return Ok(false);
-    }
-    if image.len() < n {
-        return Ok(false);
-    }
-    answer_case(rt, input, &mut text[..t], start_in(sizes), &mut image[..n])?;
-    Ok(true)
-}
-
-// At most 100,000 cases, so that the loop ends.
-fn all_cases(
-    rt: &impl Print,
-    input: &mut impl Read,
-    sizes: &mut [u8; 16],
-    text: &mut [u8; 16384],
-    image: &mut [u8; 4096],
-) -> io::Result<()> {
-    let mut n: u32 = 0;
-    while n < 100000 {
-        if read_full(input, sizes)? < 16 {
-            return Ok(());
-        }
-        if !one_case(rt, input, sizes, text, image)? {
-            return Ok(());
-        }
-        n += 1;
-    }
-    Ok(())
-}
-
 fn main(rt: HostRuntime) -> io::Result<()> {
-    let mut sizes = [0u8; 16];
-    let mut text = [0u8; 16384];
-    let mut image = [0u8; 4096];
-    all_cases(&rt, &mut rt.reader(), &mut sizes, &mut text, &mut image)
+    let mut rooms = Rooms {
+        sizes: [0; 16],
+        text: [0; 16384],
+        image: [0; 4096],
+    };
+    rooms.answer_all(&rt, &mut rt.reader())
 }

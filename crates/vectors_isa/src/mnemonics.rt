@@ -1,76 +1,66 @@
 // The mnemonic of a first half, and an instruction's operands.
-ghost use Rattle.std.specs.Prelude.{◌≤◌};
+ghost use Rattle.std.specs.Prelude.{◌<◌};
 
 use isa::Instr;
 use word::HalfDisp;
 
-#[derive(Clone, Copy)]
-pub struct Row {
-    pub a: u32,
-    pub b: u32,
-    pub c: u32,
-}
+// The mnemonics are numbered in the order of their first bytes; the last number is for what is no instruction.
+pub const MNEMONICS: usize = 60;
 
-fn row_at(a: u32, b: u32, c: u32) -> Row {
-    Row { a, b, c }
-}
+pub const NONE: usize = 59;
 
-// Mnemonics are numbered in the order of their first bytes, those of 0x0? and 0x1? here.
-fn low_mnemonic(n: usize) -> usize {
+pub const NAMES: [&str; MNEMONICS] = [
+    "lsli", "lsri", "asri", "multi", "swint", "mfsfr", "mtsfr", "jr", "jrl", "jsfr", "sub", "add",
+    "subc", "addc", "mov", "and", "or", "xor", "sxb", "xhw", "sxh", "zxh", "lsl", "lsr", "asr",
+    "mult", "cmpeqi", "cmpeq", "cmphs", "cmpls", "cmplt", "cmpgt", "cmplti", "cmpgti", "movf",
+    "subf", "addif", "addf", "movt", "subt", "addit", "addt", "ldrpc", "andi", "addi", "movi",
+    "ldr", "str", "ldrh", "strh", "ldrb", "strb", "jf", "sjf", "jt", "sjt", "j", "sj", "jl",
+    "none",
+];
+
+pub fn mnemonic(first: u16) -> usize
+    ensures { result < 60 }
+{
+    let n = usize::from(first / 256);
     match n {
-        12 => 0,
-        13 => 1,
-        14 => 2,
-        15 => 3,
+        12..=15 => n - 12,
         16 => 4,
-        18 => 5,
-        19 => 6,
-        28 => 7,
-        29 => 8,
-        30 => 9,
-        _ => 59,
+        18..=19 => n - 13,
+        28..=30 => n - 21,
+        32..=63 => n - 22,
+        64..=223 => n / 16 + 38,
+        224..=251 => n / 4 - 4,
+        _ => NONE,
     }
 }
 
-pub fn mnemonic(first: u16) -> usize {
-    let n = (first / 256) as usize;
-    if n < 32 {
-        return low_mnemonic(n);
-    }
-    if n < 64 {
-        return n - 22;
-    }
-    if n < 224 {
-        return n / 16 + 38;
-    }
-    n / 4 - 4
-}
-
-pub fn row_of(i: Instr) -> Row {
+// Those that an instruction lacks are 0.
+pub fn operands(i: Instr) -> [u32; 3] {
     match i {
-        Instr::Alu(_, d, b) => row_at(d, b, 0),
-        Instr::ShiftImm(_, d, n) => row_at(d, n, 0),
-        Instr::Cmp(_, d, b) => row_at(d, b, 0),
-        Instr::CmpImm(_, d, n) => row_at(d, n, 0),
-        Instr::Cond(_, _, d, b) => row_at(d, b, 0),
-        Instr::CondImm(_, d, n) => row_at(d, n, 0),
-        Instr::Ldrpc(d, n) => row_at(d, n, 0),
-        Instr::Imm(_, d, n) => row_at(d, n, 0),
-        Instr::Load(_, d, n, b) => row_at(d, n, b),
-        Instr::Store(_, d, n, b) => row_at(d, n, b),
-        Instr::Mfsfr(d, n) => row_at(d, n, 0),
-        Instr::Mtsfr(n, b) => row_at(n, b, 0),
-        Instr::Jr(b) => row_at(b, 0, 0),
-        Instr::Jrl(b) => row_at(b, 0, 0),
-        Instr::Jsfr(n) => row_at(n, 0, 0),
-        Instr::Swint(n) => row_at(n, 0, 0),
-        Instr::ShortJump(_, d) => row_at(d.0, 0, 0),
-        Instr::LongJump(_, d) => row_at(d.0, 0, 0),
+        Instr::Alu(_, d, b) => [d, b, 0],
+        Instr::ShiftImm(_, d, n) => [d, n, 0],
+        Instr::Cmp(_, d, b) => [d, b, 0],
+        Instr::CmpImm(_, d, n) => [d, n, 0],
+        Instr::Cond(_, _, d, b) => [d, b, 0],
+        Instr::CondImm(_, d, n) => [d, n, 0],
+        Instr::Ldrpc(d, n) => [d, n, 0],
+        Instr::Imm(_, d, n) => [d, n, 0],
+        Instr::Load(_, d, n, b) => [d, n, b],
+        Instr::Store(_, d, n, b) => [d, n, b],
+        Instr::Mfsfr(d, n) => [d, n, 0],
+        Instr::Mtsfr(n, b) => [n, b, 0],
+        Instr::Jr(b) => [b, 0, 0],
+        Instr::Jrl(b) => [b, 0, 0],
+        Instr::Jsfr(n) => [n, 0, 0],
+        Instr::Swint(n) => [n, 0, 0],
+        Instr::ShortJump(_, d) => [d.0, 0, 0],
+        Instr::LongJump(_, d) => [d.0, 0, 0],
     }
 }
 
 // The same instruction with other operands.
-pub fn with_operands(i: Instr, a: u32, b: u32, c: u32) -> Instr {
+pub fn with_operands(i: Instr, operands: [u32; 3]) -> Instr {
+    let [a, b, c] = operands;
     match i {
         Instr::Alu(op, _, _) => Instr::Alu(op, a, b),
         Instr::ShiftImm(op, _, _) => Instr::ShiftImm(op, a, b),
@@ -93,19 +83,11 @@ pub fn with_operands(i: Instr, a: u32, b: u32, c: u32) -> Instr {
     }
 }
 
-// All operands run over 48 values, as the digits of one number; those that an instruction lacks stay 0.
-pub fn stride(i: Instr) -> u32
-    ensures { (1 ≤ result) × (result ≤ 2304) }
-{
+pub fn operand_count(i: Instr) -> usize {
     match i {
-        Instr::Load(_, _, _, _) => 1,
-        Instr::Store(_, _, _, _) => 1,
-        Instr::Jr(_) => 2304,
-        Instr::Jrl(_) => 2304,
-        Instr::Jsfr(_) => 2304,
-        Instr::Swint(_) => 2304,
-        Instr::ShortJump(_, _) => 2304,
-        Instr::LongJump(_, _) => 2304,
-        _ => 48,
+        Instr::Load(..) | Instr::Store(..) => 3,
+        Instr::Jr(_) | Instr::Jrl(_) | Instr::Jsfr(_) | Instr::Swint(_) => 1,
+        Instr::ShortJump(..) | Instr::LongJump(..) => 1,
+        _ => 2,
     }
 }

@@ -1,7 +1,7 @@
 // A line for each first half and each of its six second halves.
 ghost use Rattle.std.specs.Prelude.{◌<◌, ◌≤◌};
 
-use crate::tallies::take;
+use crate::tallies::{Tally, take};
 use listing::Line;
 use word::{ByteAddr, Width};
 
@@ -37,7 +37,7 @@ fn end(a: u32, k: u32) -> usize
 {
     match k {
         1 => a as usize + 2,
-        2 => word::at_most(a as usize + 4, 65536),
+        2 => (a as usize + 4).min(65536),
         _ => 65536,
     }
 }
@@ -56,20 +56,18 @@ fn line_of(image: &mut [u8], a: ByteAddr, end: usize, first: u32, second: u32) -
     line
 }
 
-fn take_one(image: &mut [u8; 65536], t: &mut [u64; 180], h: u32, k: u32)
+fn take_one(image: &mut [u8; 65536], t: &mut [Tally; 60], h: u32, k: u32)
     requires { (h < 65536) × (k < 6) }
 {
     let a = address(h, k);
     let line = line_of(image, ByteAddr(a), end(a, k), h, second_half(h, k));
-    let text = line.text;
-    let n = line.length;
-    take(t, text::start_part(&text, n));
+    take(t, text::start_part(&line.text, line.length));
 }
 
-pub fn take_all(image: &mut [u8; 65536], t: &mut [u64; 180]) {
-    let mut n: u32 = 0;
-    while n < 393216 {
-        take_one(image, t, n / 6, n % 6);
-        n += 1;
+pub fn take_all(image: &mut [u8; 65536], t: &mut [Tally; 60]) {
+    for h in 0..65536 {
+        for k in 0..6 {
+            take_one(image, t, h, k);
+        }
     }
 }

@@ -1,11 +1,11 @@
 -- Laws of bytes in memory, once over their number.
 -- Assumes nothing.
-use Rattle.std.proofs.Common.{◌≡◌, ℕ, zero, suc, ◌+◌, ◌-◌, ◌*◌, ◌/◌, ◌%◌, ◌^◌, ◌<◌, ◌≤◌, Bool, true, false, cond, ◌||◌, ltb, List, length, get_or, drop, set, sym, refl, ap, ◌∙◌, subst, ap₂, lt_irrefl, add-one, arith, length-set, drop_of_length-le, drop-cons, get_or-set_other, get_or-set_same, pow-add}
+use Rattle.std.proofs.Common.{◌≡◌, ℕ, zero, suc, ◌+◌, ◌-◌, ◌*◌, ◌/◌, ◌%◌, ◌^◌, ◌<◌, ◌≤◌, Bool, true, false, cond, List, length, get_or, set, sym, refl, ap, ◌∙◌, subst, ap₂, lt_irrefl, add-one, arith, length-set, get_or-set_other, get_or-set_same, pow-add}
 use native.Mathlib.Nat.{mod-one}
 use lib.Arith.{digits_lt}
 use lib.Pow.{mod-pow-add}
 use lib.Seq.{set_comm}
-use Rattle.word.specs.Bytes.{inside, load, store, load_of, any_above}
+use Rattle.word.specs.Bytes.{inside, load, store, load_of}
 use Rattle.word.specs.declared.ByteAddr.{ByteAddr}
 use Rattle.word.specs.declared.Width.{Width}
 
@@ -85,15 +85,6 @@ store_order n zero m a v b u h = refl
 store_order n (suc k) m a v b u h =
     store_order n k (set m (b + k) (u % 256)) a v b (u / 256) h
     ∙ ap (λ (x : List ℕ). store k x b (u / 256)) (store_set n m a v (b + k) (u % 256) (λ i l q. omega arith))
-
--- one more byte looked at, and none left
-pub above_more : (n : ℕ) (l : List ℕ) (i : ℕ) → i < length l → any_above n (drop i l) ≡ (ltb n (get_or l i 0) || any_above n (drop (i + 1) l))
-unfolding any_above
-above_more n l i h = ap (any_above n) (drop-cons l i 0 h) ∙ ap (λ (k : ℕ). ltb n (get_or l i 0) || any_above n (drop k l)) (sym (add-one i))
-
-pub above_none : (n : ℕ) (l : List ℕ) (i : ℕ) → length l ≤ i → any_above n (drop i l) ≡ false
-unfolding any_above
-above_none n l i h = ap (any_above n) (drop_of_length-le l h)
 
 -- a half is below 65,536, since each byte is below 256
 pub half_lt : (m : List ℕ) (at : ByteAddr) → ((i : ℕ) → get_or m i 0 < 256) → load_of Width.Half m at < 65536

@@ -1,18 +1,13 @@
 // Bytes, halves and words in memory.
-ghost use Rattle.std.specs.Prelude.{◌≡◌, ◌≤◌, false, if◌then◌else◌};
+ghost use Rattle.std.specs.Prelude.{◌≡◌, ◌≤◌, if◌then◌else◌};
 ghost use Rattle.word.specs.Bytes.{bytes_of, inside, load, store, load_of, store_of, any_above};
 
-use crate::logic::either;
 use crate::{ByteAddr, Width};
 
 pub fn bytes(w: Width) -> u32
     ensures { (result ≡ bytes_of w) × (result ≤ 4) }
 {
-    match w {
-        Width::Byte => 1,
-        Width::Half => 2,
-        Width::Word => 4,
-    }
+    w as u32
 }
 
 pub fn is_inside(w: Width, m: &[u8], at: ByteAddr) -> bool
@@ -27,16 +22,14 @@ fn load_bytes(m: &[u8], at: u32, n: u32) -> u32
     requires { n ≤ 4 }
     ensures { result ≡ (if inside m.now (record { 0 = at }) n then load n m.now at else 0) }
 {
-    let a = at as usize;
-    let k = n as usize;
-    if m.len() < a + k {
+    let start = at as usize;
+    let end = start + n as usize;
+    if m.len() < end {
         return 0;
     }
-    let mut v: u32 = 0;
-    let mut i: usize = 0;
-    while i < k {
-        v = v * 256 + m[a + i] as u32;
-        i += 1;
+    let mut v = 0;
+    for x in &m[start..end] {
+        v = v * 256 + *x as u32;
     }
     v
 }
@@ -45,20 +38,19 @@ fn store_bytes(m: &mut [u8], at: u32, n: u32, v: u32)
     requires { n ≤ 4 }
     ensures { m.new ≡ (if inside m.old (record { 0 = at }) n then store n m.old at v else m.old) }
 {
-    let a = at as usize;
-    let k = n as usize;
-    if m.len() < a + k {
+    let start = at as usize;
+    let end = start + n as usize;
+    if m.len() < end {
         return;
     }
-    let mut i = k;
     let mut x = v;
-    while 0 < i {
-        i -= 1;
-        m[a + i] = (x % 256) as u8;
-        x = x / 256;
+    for i in (start..end).rev() {
+        m[i] = (x % 256) as u8;
+        x /= 256;
     }
 }
 
+// The width is matched, so that each loop has its number of bytes: with one that is not known an access costs ten instructions and more.
 pub fn load(w: Width, m: &[u8], at: ByteAddr) -> u32
     ensures { result ≡ load_of w m.now at }
 {
@@ -86,10 +78,8 @@ pub fn has_above(limit: u8, k: &[u8]) -> bool
     ensures { result ≡ any_above limit k.now }
 {
     let mut found = false;
-    let mut i: usize = 0;
-    while i < k.len() {
-        found = either(found, limit < k[i]);
-        i += 1;
+    for x in k {
+        found |= limit < *x;
     }
     found
 }

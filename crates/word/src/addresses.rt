@@ -8,13 +8,13 @@ pub fn jump_sum(at: ByteAddr, d: HalfDisp) -> ByteAddr
     ensures { result ≡ jump_sum at d }
 {
     let n = d.0;
-    ByteAddr(std::num::wrapping_add_u32(at.0, std::num::wrapping_add_u32(n, n)))
+    ByteAddr(at.0.wrapping_add(n.wrapping_add(n)))
 }
 
 pub fn byte_sum(at: ByteAddr, n: u32) -> ByteAddr
     ensures { result ≡ byte_sum at n }
 {
-    ByteAddr(std::num::wrapping_add_u32(at.0, n))
+    ByteAddr(at.0.wrapping_add(n))
 }
 
 pub fn align(w: Width, at: ByteAddr) -> ByteAddr

@@ -3,13 +3,13 @@ ghost use Rattle.std.specs.Prelude.{◌≡◌};
 ghost use Rattle.word.specs.Numbers.{sum_of, carry_of, difference_of, borrow_of, product_of, lsl_of, lsr_of, asr_of, less_of, extend_of, fits_of};
 
 use crate::Sum;
-use crate::bits::{is_on, number, power};
+use crate::bits::{is_on, power};
 
 pub fn add(x: u32, y: u32, c: bool) -> Sum
     ensures { result ≡ record { value = sum_of x y c; carry = carry_of x y c } }
 {
-    let n = number(c);
-    let value = std::num::wrapping_add_u32(std::num::wrapping_add_u32(x, y), n);
+    let n = u32::from(c);
+    let value = x.wrapping_add(y).wrapping_add(n);
     let total = x as u64 + y as u64 + n as u64;
     Sum {
         value,
@@ -20,8 +20,8 @@ pub fn add(x: u32, y: u32, c: bool) -> Sum
 pub fn sub(x: u32, y: u32, c: bool) -> Sum
     ensures { result ≡ record { value = difference_of x y c; carry = borrow_of x y c } }
 {
-    let n = number(c);
-    let value = std::num::wrapping_sub_u32(std::num::wrapping_sub_u32(x, y), n);
+    let n = u32::from(c);
+    let value = x.wrapping_sub(y).wrapping_sub(n);
     let taken = y as u64 + n as u64;
     Sum {
         value,
@@ -32,7 +32,7 @@ pub fn sub(x: u32, y: u32, c: bool) -> Sum
 pub fn mult(x: u32, y: u32) -> u32
     ensures { result ≡ product_of x y }
 {
-    (x as u64 * y as u64 % 4294967296) as u32
+    x.wrapping_mul(y)
 }
 
 pub fn lsl(x: u32, n: u32) -> u32
@@ -52,22 +52,18 @@ pub fn asr(x: u32, n: u32) -> u32
 {
     let negative = is_on(x, 31);
     if 31 < n {
-        if negative { 4294967295 } else { 0 }
+        if negative { u32::MAX } else { 0 }
+    } else if negative {
+        (x >> n) + (u32::MAX - (u32::MAX >> n))
     } else {
-        if negative {
-            (x >> n) + (4294967295 - (4294967295u32 >> n))
-        } else {
-            x >> n
-        }
+        x >> n
     }
 }
 
 pub fn is_less(x: u32, y: u32) -> bool
     ensures { result ≡ less_of x y }
 {
-    let a = std::num::wrapping_add_u32(x, 2147483648);
-    let b = std::num::wrapping_add_u32(y, 2147483648);
-    a < b
+    x.cast_signed() < y.cast_signed()
 }
 
 pub fn extend(w: u32, n: u32) -> u32

@@ -5,7 +5,7 @@ ghost use Rattle.word.specs.Bits.{num, field_of, on, with_field, with_bit};
 pub fn number(b: bool) -> u32
     ensures { (result ≡ num b) × (result ≤ 1) }
 {
-    if b { 1 } else { 0 }
+    u32::from(b)
 }
 
 pub fn power(i: u32) -> u64
@@ -15,6 +15,7 @@ pub fn power(i: u32) -> u64
     1u64 << i
 }
 
+#[tactic(auto, using(crate::proofs::Numbers::field_past, crate::proofs::Numbers::field_rest))]
 pub fn field(p: u32, i: u32, w: u32) -> u32
     ensures { result ≡ field_of p i w }
 {
@@ -34,13 +35,11 @@ pub fn is_on(p: u32, i: u32) -> bool
     field(p, i, 1) == 1
 }
 
+#[tactic(auto, using(crate::proofs::Fields::top_fits, crate::proofs::Fields::whole_fits), unfolding(crate::specs::Bits::put))]
 pub fn with_field(p: u32, i: u32, w: u32, v: u32) -> u32
     ensures { result ≡ with_field p i w v }
 {
-    if 32 < w {
-        return p;
-    }
-    if 32 - w < i {
+    if 32 < w || 32 - w < i {
         return p;
     }
     let size = power(w);

@@ -5,13 +5,11 @@ mod access;
 mod addresses;
 mod arithmetic;
 mod bits;
-mod logic;
 
 pub use access::{bytes, has_above, is_inside, load, store};
 pub use addresses::{align, byte_sum, is_odd, jump_sum};
 pub use arithmetic::{add, asr, extend, fits, is_less, lsl, lsr, mult, sub};
 pub use bits::{field, is_on, number, with_bit, with_field};
-pub use logic::{at_most, both, either, same};
 
 // An address counts bytes and a displacement halfwords, both modulo 2^32. Only `jump_sum` joins them.
 #[derive(Clone, Copy)]
@@ -23,9 +21,9 @@ pub struct HalfDisp(pub u32);
 // The size of an access: 1, 2 or 4 bytes.
 #[derive(Clone, Copy)]
 pub enum Width {
-    Byte,
-    Half,
-    Word,
+    Byte = 1,
+    Half = 2,
+    Word = 4,
 }
 
 // What an addition or a subtraction gives: the word, and its carry or borrow.

@@ -1,5 +1,6 @@
 -- What a field of an operand's sort writes.
 -- Assumes nothing.
+use Rattle.std.specs.Prelude.{None, Option, Some, ℕ, Ok, Err}
 use Prim.Native.Nat.{ℕ, suc, ◌+◌, ◌*◌, ◌-◌, ◌/◌, ◌%◌, ◌^◌, ◌<◌, ◌≤◌}
 use mathlib.Core.Logic.{◌⊎◌, inl, inr}
 use mathlib.Core.Path.{◌≡◌, refl, sym, ap, ap₂, subst, ◌∙◌}
@@ -15,12 +16,11 @@ use Rattle.isa.proofs.Rows.{and_left, and_right}
 use Rattle.text.specs.Digits.{value_of as worth, glyph_of, digits_read, leading_zero, is_short, decimal_of, decimal_text}
 use Rattle.text.specs.Fields.{same_of}
 use Rattle.text.specs.Words.{ascii}
-use Rattle.text.specs.declared.Read.{Read as Digits}
 use Rattle.text.proofs.Theorems.{decimal_more, decimal_one, decimal_reads}
 use Rattle.listing.specs.Listing.{operand_text, tab}
 use Rattle.listing.specs.declared.Operand.{Operand}
 use Rattle.expr.specs.Expr.{Labels, sum_of, value_of, is_whole, is_sum}
-use Rattle.expr.specs.declared.Read.{Read as Valued}
+use Rattle.expr.specs.Expr.{Read as Valued}
 use Rattle.expr.specs.declared.Value.{Value}
 use Rattle.expr.specs.declared.Fault.{Fault}
 use Rattle.expr.proofs.Theorems.{only_depth}
@@ -50,25 +50,25 @@ unfolding glyph_of
 glyph_back c h = rw (lt-ltb (worth c) 10 h) (digit_of_lem c h)
 
 -- digits l read after v, to w: a step is taken by a digit, or the reading ends
-digits_step : (v w c : ℕ) (l : List ℕ) → digits_read 10 v (c ∷ l) ≡ Digits.Number w → (worth c < 10) × (digits_read 10 (v * 10 + worth c) l ≡ Digits.Number w)
+digits_step : (v w c : ℕ) (l : List ℕ) → digits_read 10 v (c ∷ l) ≡ Some w → (worth c < 10) × (digits_read 10 (v * 10 + worth c) l ≡ Some w)
 unfolding digits_read
 digits_step v w c l = go (ltb (worth c) 10) refl
   where
-    go : (t : Bool) → ltb (worth c) 10 ≡ t → cond t (digits_read 10 (v * 10 + worth c) l) Digits.Nothing ≡ Digits.Number w
-        → (worth c < 10) × (digits_read 10 (v * 10 + worth c) l ≡ Digits.Number w)
+    go : (t : Bool) → ltb (worth c) 10 ≡ t → cond t (digits_read 10 (v * 10 + worth c) l) None ≡ Some w
+        → (worth c < 10) × (digits_read 10 (v * 10 + worth c) l ≡ Some w)
     go true e q = (ltb-true _ _ e, q)
     go false e q = let z : ◌≡◌ {A = ℕ} 0 1 = cc in absurd (omega arith)
 
-digits_end : (v w : ℕ) → digits_read 10 v [] ≡ Digits.Number w → v ≡ w
+digits_end : (v w : ℕ) → digits_read 10 v [] ≡ Some w → v ≡ w
 unfolding digits_read
 digits_end v w e = cc
 
-grows : (v w : ℕ) (l : List ℕ) → digits_read 10 v l ≡ Digits.Number w → v ≤ w
+grows : (v w : ℕ) (l : List ℕ) → digits_read 10 v l ≡ Some w → v ≤ w
 grows v w [] e = let q = digits_end v w e in omega arith
 grows v w (c ∷ l) e = let g = grows (v * 10 + worth c) w l (digits_step v w c l e).1 in omega arith
 
 -- after a number that is not 0, they stand as they are
-text_on : (v w : ℕ) (l : List ℕ) → 0 < v → w < 10 ^ 20 → digits_read 10 v l ≡ Digits.Number w → decimal_text w ≡ decimal_text v ++ l
+text_on : (v w : ℕ) (l : List ℕ) → 0 < v → w < 10 ^ 20 → digits_read 10 v l ≡ Some w → decimal_text w ≡ decimal_text v ++ l
 text_on v w [] low high e = rw (digits_end v w e) (sym (append-nil (decimal_text w)))
 text_on v w (c ∷ l) low high e =
     let s = digits_step v w c l e in
@@ -80,28 +80,28 @@ text_on v w (c ∷ l) low high e =
     let m : decimal_text n ≡ decimal_text v ++ (c ∷ []) = decimal_more n (omega arith) (omega arith) ∙ rw (q, r, glyph_back c d) in
     text_on n w l (omega arith) high s.1 ∙ ap (λ (t : List ℕ). t ++ l) m ∙ append_snoc (decimal_text v) c l
 
-decimal_parts : (l : List ℕ) (w : ℕ) → decimal_of l ≡ Digits.Number w → (leading_zero l ≡ false) × (digits_read 10 0 l ≡ Digits.Number w)
+decimal_parts : (l : List ℕ) (w : ℕ) → decimal_of l ≡ Some w → (leading_zero l ≡ false) × (digits_read 10 0 l ≡ Some w)
 decimal_parts l w e = go (is_short l) (leading_zero l) e
   where
-    go : (u v : Bool) → cond u (cond v Digits.Nothing (digits_read 10 0 l)) Digits.Nothing ≡ Digits.Number w → (v ≡ false) × (digits_read 10 0 l ≡ Digits.Number w)
+    go : (u v : Bool) → cond u (cond v None (digits_read 10 0 l)) None ≡ Some w → (v ≡ false) × (digits_read 10 0 l ≡ Some w)
     go true false e = (refl, e)
     go true true e = let z : ◌≡◌ {A = ℕ} 0 1 = cc in absurd (omega arith)
     go false v e = let z : ◌≡◌ {A = ℕ} 0 1 = cc in absurd (omega arith)
 
-decimal_text_lem : (l : List ℕ) (w : ℕ) → w < 10 ^ 20 → decimal_of l ≡ Digits.Number w → decimal_text w ≡ l
+decimal_text_lem : (l : List ℕ) (w : ℕ) → w < 10 ^ 20 → decimal_of l ≡ Some w → decimal_text w ≡ l
 decimal_text_lem [] w high e = let z : ◌≡◌ {A = ℕ} 0 1 = cc in absurd (omega arith)
 decimal_text_lem (c ∷ l) w high e = go l (eqb (worth c) 0) refl parts.0 s.1
   where
-    parts : (leading_zero (c ∷ l) ≡ false) × (digits_read 10 0 (c ∷ l) ≡ Digits.Number w)
+    parts : (leading_zero (c ∷ l) ≡ false) × (digits_read 10 0 (c ∷ l) ≡ Some w)
     parts = decimal_parts (c ∷ l) w e
 
-    s : (worth c < 10) × (digits_read 10 (0 * 10 + worth c) l ≡ Digits.Number w)
+    s : (worth c < 10) × (digits_read 10 (0 * 10 + worth c) l ≡ Some w)
     s = digits_step 0 w c l parts.1
 
     first : (n : ℕ) → n ≡ worth c → decimal_text n ≡ c ∷ []
     first n q = let h = s.0 in rw q (decimal_one (worth c) (omega arith) h ∙ rw (glyph_back c h))
 
-    go : (l : List ℕ) (t : Bool) → eqb (worth c) 0 ≡ t → leading_zero (c ∷ l) ≡ false → digits_read 10 (0 * 10 + worth c) l ≡ Digits.Number w → decimal_text w ≡ c ∷ l
+    go : (l : List ℕ) (t : Bool) → eqb (worth c) 0 ≡ t → leading_zero (c ∷ l) ≡ false → digits_read 10 (0 * 10 + worth c) l ≡ Some w → decimal_text w ≡ c ∷ l
     go [] t p q r = first w (omega (arith, digits_end _ w r))
     go (d ∷ l) true p q r =
         let o = eqb-true (worth c) 0 p in
@@ -128,17 +128,17 @@ numbered_text : (p : List ℕ) (n : ℕ) (f : List ℕ) → n < 100 → numbered
 unfolding numbered_of
 numbered_text p n f low = go (same_of (take (length p) f) p) refl (decimal_of (drop (length p) f)) refl
   where
-    ends : (v : ℕ) → v < n → same_of (take (length p) f) p ≡ true → decimal_of (drop (length p) f) ≡ Digits.Number v → p ++ decimal_text v ≡ f
+    ends : (v : ℕ) → v < n → same_of (take (length p) f) p ≡ true → decimal_of (drop (length p) f) ≡ Some v → p ++ decimal_text v ≡ f
     ends v h e q =
         ap₂ ◌++◌ (sym (same_text (take (length p) f) p e)) (decimal_text_lem (drop (length p) f) v (omega arith) q) ∙ take-append-drop (length p) f
 
-    go : (t : Bool) → same_of (take (length p) f) p ≡ t → (d : Digits) → decimal_of (drop (length p) f) ≡ d → cond t (below n d) n < n → p ++ decimal_text (cond t (below n d) n) ≡ f
-    go true e (Digits.Number v) q h = at (ltb v n) refl h
+    go : (t : Bool) → same_of (take (length p) f) p ≡ t → (d : Option ℕ) → decimal_of (drop (length p) f) ≡ d → cond t (below n d) n < n → p ++ decimal_text (cond t (below n d) n) ≡ f
+    go true e (Some v) q h = at (ltb v n) refl h
       where
         at : (u : Bool) → ltb v n ≡ u → cond u v n < n → p ++ decimal_text (cond u v n) ≡ f
         at true i h = ends v h e q
         at false i h = absurd (omega arith)
-    go true e Digits.Nothing q h = absurd (omega arith)
+    go true e None q h = absurd (omega arith)
     go false e d q h = absurd (omega arith)
 
 register_text_lem : (n : ℕ) (f : List ℕ) → n < 100 → ltb (numbered_of (ascii "r") n f) n ≡ true → operand_text (Operand.Reg (numbered_of (ascii "r") n f)) ≡ tab f
@@ -152,12 +152,12 @@ sfr_text n f low e = ap tab (numbered_text (ascii "sfr") n f low (ltb-true _ _ e
 -- ---- expressions
 
 -- one that has a value is read whole
-whole_field : (f : List ℕ) (z : ℤ) (n : ℕ) (r : Valued) → (r ≡ Valued.Not Fault.Deep) ⊎ (is_whole f r ≡ true) → r ≡ Valued.Got (Value.Is z) n → n ≡ length f
+whole_field : (f : List ℕ) (z : ℤ) (n : ℕ) (r : Valued) → (r ≡ Err Fault.Deep) ⊎ (is_whole f r ≡ true) → r ≡ Ok (Value.Is z, n) → n ≡ length f
 unfolding is_whole
 whole_field f z n r (inl d) e = let z : ◌≡◌ {A = ℕ} 0 1 = cc in absurd (omega arith)
 whole_field f z n r (inr w) e = eqb-true n (length f) (subst (λ (x : Valued). is_whole f x ≡ true) e w)
 
-sum_writes : (t : Labels) (f : List ℕ) (z : ℤ) (n : ℕ) → is_sum f ≡ true → value_of t f ≡ Valued.Got (Value.Is z) n → Writes t (Operand.Number (bits_of z)) f
+sum_writes : (t : Labels) (f : List ℕ) (z : ℤ) (n : ℕ) → is_sum f ≡ true → value_of t f ≡ Ok (Value.Is z, n) → Writes t (Operand.Number (bits_of z)) f
 unfolding value_of
 sum_writes t f z n s e =
     let w = value_word t f z n e in
@@ -176,7 +176,7 @@ operand_by Sort.Sum f v = Operand.Number v
 
 -- the value is that of the field, where it is an expression
 pub operand_writes : (t : Labels) (z : ℤ) (n : ℕ) (s : Sort) (f : List ℕ) → fields_of s ≡ 1 → is_of s f ≡ true
-    → sum_at t s f (Valued.Got (Value.Is z) n) ≡ Valued.Got (Value.Is z) n → Writes t (operand_by s f (bits_of z)) f
+    → sum_at t s f (Ok (Value.Is z, n)) ≡ Ok (Value.Is z, n) → Writes t (operand_by s f (bits_of z)) f
 unfolding is_of number_at sum_at
 operand_writes t z n Sort.Nothing f o h e = absurd (omega arith)
 operand_writes t z n Sort.Never f o h e = absurd (omega arith)

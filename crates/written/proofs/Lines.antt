@@ -1,5 +1,6 @@
 -- What a line that is not refused shows, and its bytes.
 -- Assumes nothing.
+use Rattle.std.specs.Prelude.{Err, None, Ok, Option, Result, Some}
 use Prim.Native.Nat.{ℕ, suc, ◌+◌, ◌-◌, ◌*◌, ◌/◌, ◌%◌, ◌^◌, ◌<◌}
 use mathlib.Core.Logic.{◌⊎◌, inl, inr}
 use mathlib.Core.Path.{◌≡◌, refl, sym, ap, ◌∙◌}
@@ -31,7 +32,7 @@ use Rattle.listing.specs.Listing.{row_of}
 use Rattle.listing.specs.declared.Operand.{Operand}
 use Rattle.listing.specs.declared.Row.{Row}
 use Rattle.expr.specs.Expr.{Labels, key_of, is_name}
-use Rattle.expr.specs.declared.Read.{Read as Valued}
+use Rattle.expr.specs.Expr.{Read as Valued}
 use Rattle.expr.specs.declared.Value.{Value}
 use Rattle.forms.specs.Form.{is_ended, body_of, field_at, what_of, what_in, kind_shape, shape_of, is_label, fits_shape, is_known_body, is_known_as}
 use Rattle.forms.specs.Says.{bits_of, says_of, bits_said, bits_at, bytes_in}
@@ -39,7 +40,6 @@ use Rattle.forms.specs.declared.Sort.{Sort}
 use Rattle.forms.specs.declared.What.{What}
 use Rattle.asm.specs.Assemble.{sum_at, line_value, line_bits, label_in, before, label_check, fit_check, value_check, line_check, line_bytes, value_in}
 use Rattle.asm.specs.declared.Refusal.{Refusal}
-use Rattle.asm.specs.declared.Checked.{Checked}
 use Rattle.written.specs.Written.{RowWrites, Shows, short, long, half, word}
 use Rattle.written.proofs.Names.{kind_by, instr_name, half_name, word_name}
 use Rattle.written.proofs.Rows.{said_by, RowOf, row_one, row_said}
@@ -47,24 +47,24 @@ use Rattle.written.proofs.Rows.{said_by, RowOf, row_one, row_said}
 -- ---- bits of a kind: as many as its shape says
 
 -- bits that are there take n bytes
-Sized : ℕ → Encoded → Type 0
-Sized n (Encoded.Half h) = 2 ≡ n
-Sized n (Encoded.Pair h s) = (4 ≡ n) × (s < 65536)
-Sized n Encoded.Nothing = Unit {0}
+Sized : ℕ → Option Encoded → Type 0
+Sized n (Some (Encoded.Half h)) = 2 ≡ n
+Sized n (Some (Encoded.Pair h s)) = (4 ≡ n) × (s < 65536)
+Sized n None = Unit {0}
 
-none : (n : ℕ) → Sized n Encoded.Nothing
+none : (n : ℕ) → Sized n None
 unfolding Sized
 none n = tt
 
-two : (h : ℕ) → Sized 2 (Encoded.Half h)
+two : (h : ℕ) → Sized 2 (Some (Encoded.Half h))
 unfolding Sized
 two h = refl
 
-four : (h n : ℕ) → Sized 4 (Encoded.Pair h (n % 65536))
+four : (h n : ℕ) → Sized 4 (Some (Encoded.Pair h (n % 65536)))
 unfolding Sized
 four h n = (refl, omega arith)
 
-only_sized : (t : Bool) (n : ℕ) (x : Encoded) → Sized n x → Sized n (only t x)
+only_sized : (t : Bool) (n : ℕ) (x : Option Encoded) → Sized n x → Sized n (only t x)
 only_sized true n x q = q
 only_sized false n x q = none n
 
@@ -119,51 +119,51 @@ bits_sized (Kind.LongJump op) a x y z v = far op _
 -- ---- a line that is fine
 
 -- of what was checked nothing is refused
-pub record Fine (t : Labels) (s : List ℕ) (a : ByteAddr) (y : Checked) (w : What) (l : List ℕ) : Type 0 where
+pub record Fine (t : Labels) (s : List ℕ) (a : ByteAddr) (y : Result Unit Refusal) (w : What) (l : List ℕ) : Type 0 where
   pub known : is_known_as w l ≡ true
   pub value : ℤ
   pub read : ℕ
-  pub valued : line_value t (shape_of w) (body_of l) ≡ Valued.Got (Value.Is value) read
-  pub label : label_check s (label_in l) ≡ Checked.Fine
-  pub fits : fit_check (line_bits w a (body_of l) value) ≡ Checked.Fine
-  pub room : y ≡ Checked.Fine
+  pub valued : line_value t (shape_of w) (body_of l) ≡ Ok (Value.Is value, read)
+  pub label : label_check s (label_in l) ≡ Ok tt
+  pub fits : fit_check (line_bits w a (body_of l) value) ≡ Ok tt
+  pub room : y ≡ Ok tt
 
-fine_both : (x y : Checked) → before x y ≡ Checked.Fine → (x ≡ Checked.Fine) × (y ≡ Checked.Fine)
-fine_both Checked.Fine y e = (refl, e)
-fine_both (Checked.Not r) y e = let z : ◌≡◌ {A = ℕ} 0 1 = cc in absurd (omega arith)
+fine_both : (x y : Result Unit Refusal) → before x y ≡ Ok tt → (x ≡ Ok tt) × (y ≡ Ok tt)
+fine_both (Ok _) y e = (refl, e)
+fine_both (Err r) y e = let z : ◌≡◌ {A = ℕ} 0 1 = cc in absurd (omega arith)
 
-module _ (t : Labels) (s : List ℕ) (a : ByteAddr) (y : Checked) (w : What) (l : List ℕ) where
+module _ (t : Labels) (s : List ℕ) (a : ByteAddr) (y : Result Unit Refusal) (w : What) (l : List ℕ) where
   by_value : is_known_as w l ≡ true → (v : Valued) → line_value t (shape_of w) (body_of l) ≡ v
-      → value_check w a (body_of l) (label_check s (label_in l)) y v ≡ Checked.Fine → Fine t s a y w l
+      → value_check w a (body_of l) (label_check s (label_in l)) y v ≡ Ok tt → Fine t s a y w l
   unfolding value_check
-  by_value k (Valued.Not e) p q = let z : ◌≡◌ {A = ℕ} 0 1 = cc in absurd (omega arith)
-  by_value k (Valued.Got Value.Unknown n) p q = let z : ◌≡◌ {A = ℕ} 0 1 = cc in absurd (omega arith)
-  by_value k (Valued.Got Value.Large n) p q =
-      let b = (fine_both (label_check s (label_in l)) (Checked.Not Refusal.Value) q).1 in
+  by_value k (Err e) p q = let z : ◌≡◌ {A = ℕ} 0 1 = cc in absurd (omega arith)
+  by_value k (Ok (Value.Unknown, n)) p q = let z : ◌≡◌ {A = ℕ} 0 1 = cc in absurd (omega arith)
+  by_value k (Ok (Value.Large, n)) p q =
+      let b = (fine_both (label_check s (label_in l)) (Err Refusal.Value) q).1 in
       let z : ◌≡◌ {A = ℕ} 0 1 = cc in absurd (omega arith)
-  by_value k (Valued.Got (Value.Is z) n) p q =
+  by_value k (Ok (Value.Is z, n)) p q =
       let b = fine_both (label_check s (label_in l)) _ q in
       let c = fine_both (fit_check (line_bits w a (body_of l) z)) y b.1 in
       record { known = k; value = z; read = n; valued = p; label = b.0; fits = c.0; room = c.1 }
 
-  pub fine : line_check t s a y w l ≡ Checked.Fine → Fine t s a y w l
+  pub fine : line_check t s a y w l ≡ Ok tt → Fine t s a y w l
   unfolding line_check
   fine e = go (is_known_as w l) refl e
     where
       v : Valued
       v = line_value t (shape_of w) (body_of l)
 
-      go : (u : Bool) → is_known_as w l ≡ u → cond u (value_check w a (body_of l) (label_check s (label_in l)) y v) (Checked.Not Refusal.Form) ≡ Checked.Fine → Fine t s a y w l
+      go : (u : Bool) → is_known_as w l ≡ u → cond u (value_check w a (body_of l) (label_check s (label_in l)) y v) (Err Refusal.Form) ≡ Ok tt → Fine t s a y w l
       go true k q = by_value k v refl q
       go false k q = let z : ◌≡◌ {A = ℕ} 0 1 = cc in absurd (omega arith)
 
 -- ---- its size
 
-sized_bytes : (x : Encoded) (n : ℕ) → fit_check x ≡ Checked.Fine → Sized n x → length (bytes_in x) ≡ n
+sized_bytes : (x : Option Encoded) (n : ℕ) → fit_check x ≡ Ok tt → Sized n x → length (bytes_in x) ≡ n
 unfolding Sized bytes_in
-sized_bytes (Encoded.Half h) n f q = q
-sized_bytes (Encoded.Pair h y) n f q = q.0
-sized_bytes Encoded.Nothing n f q = let z : ◌≡◌ {A = ℕ} 0 1 = cc in absurd (omega arith)
+sized_bytes (Some (Encoded.Half h)) n f q = q
+sized_bytes (Some (Encoded.Pair h y)) n f q = q.0
+sized_bytes None n f q = let z : ◌≡◌ {A = ℕ} 0 1 = cc in absurd (omega arith)
 
 bits_at_lem : (w : What) (a : ByteAddr) (b : List ℕ) (z : ℤ) → Sized (shape_of w).size (line_bits w a b z)
 unfolding line_bits bits_at shape_of
@@ -171,22 +171,22 @@ bits_at_lem (What.Code k) a b z = bits_sized k a _ _ _ _
 bits_at_lem What.Half a b z = only_sized (ltb (bits_of z) 65536) 2 _ (two (bits_of z))
 bits_at_lem What.Word a b z = four (bits_of z / 65536) (bits_of z)
 
-pub bits_size : (w : What) (a : ByteAddr) (b : List ℕ) (z : ℤ) → fit_check (line_bits w a b z) ≡ Checked.Fine → length (bytes_in (line_bits w a b z)) ≡ (shape_of w).size
+pub bits_size : (w : What) (a : ByteAddr) (b : List ℕ) (z : ℤ) → fit_check (line_bits w a b z) ≡ Ok tt → length (bytes_in (line_bits w a b z)) ≡ (shape_of w).size
 bits_size w a b z f = sized_bytes _ _ f (bits_at_lem w a b z)
 
-module _ (t : Labels) (s : List ℕ) (a : ByteAddr) (y : Checked) (w : What) (l : List ℕ) where
-  pub line_size_lem : line_check t s a y w l ≡ Checked.Fine → length (line_bytes t a w l) ≡ (shape_of w).size
+module _ (t : Labels) (s : List ℕ) (a : ByteAddr) (y : Result Unit Refusal) (w : What) (l : List ℕ) where
+  pub line_size_lem : line_check t s a y w l ≡ Ok tt → length (line_bytes t a w l) ≡ (shape_of w).size
   unfolding line_bytes value_in
   line_size_lem e = let f = fine t s a y w l e in rw f.valued (bits_size w a (body_of l) f.value f.fits)
 
 -- ---- what it shows
 
-has_bits_lem : (x : Encoded) → fit_check x ≡ Checked.Fine → has_bits x ≡ true
-has_bits_lem (Encoded.Half h) f = refl
-has_bits_lem (Encoded.Pair h s) f = refl
-has_bits_lem Encoded.Nothing f = let z : ◌≡◌ {A = ℕ} 0 1 = cc in absurd (omega arith)
+has_bits_lem : (x : Option Encoded) → fit_check x ≡ Ok tt → has_bits x ≡ true
+has_bits_lem (Some (Encoded.Half h)) f = refl
+has_bits_lem (Some (Encoded.Pair h s)) f = refl
+has_bits_lem None f = let z : ◌≡◌ {A = ℕ} 0 1 = cc in absurd (omega arith)
 
-word_bytes : (v : ℕ) → bytes_in (Encoded.Pair (v / 65536) (v % 65536)) ≡ v / 16777216 ∷ v / 65536 % 256 ∷ v / 256 % 256 ∷ v % 256 ∷ []
+word_bytes : (v : ℕ) → bytes_in (Some (Encoded.Pair (v / 65536) (v % 65536))) ≡ v / 16777216 ∷ v / 65536 % 256 ∷ v / 256 % 256 ∷ v % 256 ∷ []
 unfolding bytes_in
 word_bytes v =
     let p : v / 65536 / 256 ≡ v / 16777216 = omega arith in
@@ -195,28 +195,28 @@ word_bytes v =
     rw (p, q, r)
 
 module _ (t : Labels) (a : ByteAddr) (ha : a.0 < 4294967296) (b : List ℕ) (z : ℤ) (n : ℕ) where
-  instr_shows : (i : Instr) (m : ℕ) (x : Encoded) → what_of b ≡ What.Code (kind_by i) → RowWrites t (row_of a i) b → DecodesTo x i → Sized m x → fit_check x ≡ Checked.Fine
+  instr_shows : (i : Instr) (m : ℕ) (x : Option Encoded) → what_of b ≡ What.Code (kind_by i) → RowWrites t (row_of a i) b → DecodesTo x i → Sized m x → fit_check x ≡ Ok tt
       → Shows t a b (bytes_in x)
   unfolding bytes_in Sized
-  instr_shows i m (Encoded.Half h) w r d q f = short h i refl d (instr_name h 0 i (inl (d 0)) b w, r)
-  instr_shows i m (Encoded.Pair h s) w r d q f = long h s i refl q.1 d (instr_name h s i (inr d) b w, r)
-  instr_shows i m Encoded.Nothing w r d q f = let z : ◌≡◌ {A = ℕ} 0 1 = cc in absurd (omega arith)
+  instr_shows i m (Some (Encoded.Half h)) w r d q f = short h i refl d (instr_name h 0 i (inl (d 0)) b w, r)
+  instr_shows i m (Some (Encoded.Pair h s)) w r d q f = long h s i refl q.1 d (instr_name h s i (inr d) b w, r)
+  instr_shows i m None w r d q f = let z : ◌≡◌ {A = ℕ} 0 1 = cc in absurd (omega arith)
 
-  said_shows : (k : Kind) (m : ℕ) (d : Decoded) → what_of b ≡ What.Code k → RowOf t b z n a ha k d → Sized m (bits_said d) → fit_check (bits_said d) ≡ Checked.Fine
+  said_shows : (k : Kind) (m : ℕ) (d : Option Decoded) → what_of b ≡ What.Code k → RowOf t b z n a ha k d → Sized m (bits_said d) → fit_check (bits_said d) ≡ Ok tt
       → Shows t a b (bytes_in (bits_said d))
   unfolding bits_said
-  said_shows k m (Decoded.Short i) w r q f = instr_shows i m (encode_of i) (w ∙ ap What.Code (sym r.0)) r.1 (bits_decode i) q f
-  said_shows k m (Decoded.Long i) w r q f = instr_shows i m (encode_of i) (w ∙ ap What.Code (sym r.0)) r.1 (bits_decode i) q f
-  said_shows k m Decoded.Nothing w r q f = let z : ◌≡◌ {A = ℕ} 0 1 = cc in absurd (omega arith)
+  said_shows k m (Some (Decoded.Short i)) w r q f = instr_shows i m (encode_of i) (w ∙ ap What.Code (sym r.0)) r.1 (bits_decode i) q f
+  said_shows k m (Some (Decoded.Long i)) w r q f = instr_shows i m (encode_of i) (w ∙ ap What.Code (sym r.0)) r.1 (bits_decode i) q f
+  said_shows k m None w r q f = let z : ◌≡◌ {A = ℕ} 0 1 = cc in absurd (omega arith)
 
   half_shows : (u : Bool) → ltb (bits_of z) 65536 ≡ u → ascii "half" ≡ field_at 1 b → RowWrites t (Row.One (Operand.Number (bits_of z))) b
-      → fit_check (only u (Encoded.Half (bits_of z))) ≡ Checked.Fine → Shows t a b (bytes_in (only u (Encoded.Half (bits_of z))))
+      → fit_check (only u (Some (Encoded.Half (bits_of z)))) ≡ Ok tt → Shows t a b (bytes_in (only u (Some (Encoded.Half (bits_of z)))))
   unfolding bytes_in
   half_shows true e w r f = half (bits_of z) refl (ltb-true _ _ e) w r
   half_shows false e w r f = let z : ◌≡◌ {A = ℕ} 0 1 = cc in absurd (omega arith)
 
-  bits_show : (w : What) → what_of b ≡ w → fits_shape (shape_of w) b ≡ true → line_value t (shape_of w) b ≡ Valued.Got (Value.Is z) n
-      → fit_check (line_bits w a b z) ≡ Checked.Fine → Shows t a b (bytes_in (line_bits w a b z))
+  bits_show : (w : What) → what_of b ≡ w → fits_shape (shape_of w) b ≡ true → line_value t (shape_of w) b ≡ Ok (Value.Is z, n)
+      → fit_check (line_bits w a b z) ≡ Ok tt → Shows t a b (bytes_in (line_bits w a b z))
   unfolding line_bits bits_at shape_of line_value sum_at
   bits_show (What.Code k) e s v f =
       said_shows k (kind_shape k).size (said_by k a b z) e (row_said t b z n a ha k s v (has_bits_lem (bits_said (said_by k a b z)) f)) (bits_sized k a _ _ _ _) f
@@ -258,7 +258,7 @@ known_fits : (w : What) (l : List ℕ) → is_known_as w l ≡ true → fits_sha
 unfolding is_known_as is_known_body
 known_fits w l e = and_right (is_label (field_at 0 (body_of l))) _ (and_right (is_ended l) _ e)
 
-pub line_shown : (t : Labels) (s : List ℕ) (a : ByteAddr) (y : Checked) (l : List ℕ) → a.0 < 4294967296 → line_check t s a y (what_in l) l ≡ Checked.Fine
+pub line_shown : (t : Labels) (s : List ℕ) (a : ByteAddr) (y : Result Unit Refusal) (l : List ℕ) → a.0 < 4294967296 → line_check t s a y (what_in l) l ≡ Ok tt
     → Shows t a (body_of l) (line_bytes t a (what_in l) l)
 unfolding line_bytes value_in
 line_shown t s a y l ha e =

@@ -1,5 +1,6 @@
 -- A line's mnemonic is the name of what its bits decode to, and such a name is the mnemonic that names it.
 -- Assumes nothing.
+use Rattle.std.specs.Prelude.{None, Option, Some}
 use Prim.Native.Nat.{ℕ, ◌+◌, ◌-◌, ◌*◌, ◌/◌, ◌%◌, ◌<◌, ◌≤◌}
 use mathlib.Core.Logic.{◌⊎◌, inl, inr}
 use mathlib.Core.Path.{◌≡◌, refl, sym, ap, subst, ◌∙◌}
@@ -70,10 +71,10 @@ place_by (Kind.ShortJump op) = 18 + short_no op
 place_by (Kind.LongJump op) = 18 + long_no op
 
 -- what decodes is of the first byte's kind
-abbrev OfKind : Kind → Decoded → Type 0
-OfKind k (Decoded.Short i) = kind_by i ≡ k
-OfKind k (Decoded.Long i) = kind_by i ≡ k
-OfKind k Decoded.Nothing = Unit {0}
+abbrev OfKind : Kind → Option Decoded → Type 0
+OfKind k (Some (Decoded.Short i)) = kind_by i ≡ k
+OfKind k (Some (Decoded.Long i)) = kind_by i ≡ k
+OfKind k None = Unit {0}
 
 if_kind : (t : Bool) (k : Kind) (i : Instr) → kind_by i ≡ k → OfKind k (short_if t i)
 if_kind true k i e = e
@@ -275,7 +276,7 @@ module _ (h s : ℕ) (some : size_of (decode_of h s) ≡ 0 → ⊥) (b : List �
 
 module _ (h s : ℕ) (i : Instr) where
   abbrev pub Gives : Type 0
-  Gives = (decode_of h s ≡ Decoded.Short i) ⊎ (decode_of h s ≡ Decoded.Long i)
+  Gives = (decode_of h s ≡ Some (Decoded.Short i)) ⊎ (decode_of h s ≡ Some (Decoded.Long i))
 
   gives_some : Gives → size_of (decode_of h s) ≡ 0 → ⊥
   gives_some (inl e) q = let z : ◌≡◌ {A = ℕ} 2 0 = sym (ap size_of e) ∙ q in omega arith

@@ -1,5 +1,6 @@
 -- Of a line's faults the one with the lowest number is told.
 -- Assumes nothing.
+use Rattle.std.specs.Prelude.{Err, None, Ok, Option, Result, Some}
 use Prim.Native.Nat.{ℕ, suc, ◌+◌, ◌≤◌, ◌<◌}
 use mathlib.Core.Path.{◌≡◌, refl, sym, ap, ◌∙◌}
 use mathlib.Core.Bool.{Bool, true, false, cond, not, ◌&&◌}
@@ -12,13 +13,12 @@ use Rattle.word.specs.declared.ByteAddr.{ByteAddr}
 use Rattle.isa.specs.Statements.{has_bits}
 use Rattle.isa.specs.declared.Encoded.{Encoded}
 use Rattle.expr.specs.Expr.{Labels}
-use Rattle.expr.specs.declared.Read.{Read as Valued}
+use Rattle.expr.specs.Expr.{Read as Valued}
 use Rattle.expr.specs.declared.Value.{Value}
 use Rattle.forms.specs.Form.{body_of, what_in, shape_of, is_known}
 use Rattle.asm.specs.Assemble.{address_of, line_bits, is_set, has_room, number_of, before, refused_if, label_check, fit_check, value_check, line_check, room_check}
 use Rattle.forms.specs.declared.What.{What}
 use Rattle.asm.specs.declared.Refusal.{Refusal}
-use Rattle.asm.specs.declared.Checked.{Checked}
 use Rattle.written.specs.Assembly.{is_in, own_label, check_at, value_in, is_deep, is_unknown, is_unfit, faults_of, Lowest}
 use Rattle.written.proofs.Text.{some_name}
 use Rattle.written.proofs.Labels.{set_is_in}
@@ -26,28 +26,28 @@ use Rattle.written.proofs.Labels.{set_is_in}
 -- ---- a line's check is the first of its faults
 
 -- one after the other, by their numbers: from 31 on, and all
-later_of : (Refusal → Bool) → Checked
+later_of : (Refusal → Bool) → Result Unit Refusal
 later_of f =
     before (refused_if (f Refusal.Deep) Refusal.Deep) (before (refused_if (f Refusal.Label) Refusal.Label)
     (before (refused_if (f Refusal.Twice) Refusal.Twice) (before (refused_if (f Refusal.Many) Refusal.Many)
     (before (refused_if (f Refusal.Value) Refusal.Value) (refused_if (f Refusal.Room) Refusal.Room)))))
 
-first_of : (Refusal → Bool) → Checked
+first_of : (Refusal → Bool) → Result Unit Refusal
 first_of f = before (refused_if (f Refusal.Form) Refusal.Form) (later_of f)
 
-fit_first : (x : Encoded) → fit_check x ≡ refused_if (not (has_bits x)) Refusal.Value
-fit_first (Encoded.Half h) = refl
-fit_first (Encoded.Pair h s) = refl
-fit_first Encoded.Nothing = refl
+fit_first : (x : Option Encoded) → fit_check x ≡ refused_if (not (has_bits x)) Refusal.Value
+fit_first (Some (Encoded.Half h)) = refl
+fit_first (Some (Encoded.Pair h s)) = refl
+fit_first None = refl
 
-value_first : (w : What) (a : ByteAddr) (b : List ℕ) (x y : Checked) (v : Valued)
+value_first : (w : What) (a : ByteAddr) (b : List ℕ) (x y : Result Unit Refusal) (v : Valued)
     → value_check w a b x y v
     ≡ before (refused_if (is_deep v) Refusal.Deep) (before (refused_if (is_unknown v) Refusal.Label) (before x (before (refused_if (is_unfit w a b v) Refusal.Value) y)))
 unfolding value_check
-value_first w a b x y (Valued.Not e) = refl
-value_first w a b x y (Valued.Got Value.Unknown n) = refl
-value_first w a b x y (Valued.Got Value.Large n) = refl
-value_first w a b x y (Valued.Got (Value.Is z) n) = ap (λ (c : Checked). before x (before c y)) (fit_first (line_bits w a b z))
+value_first w a b x y (Err e) = refl
+value_first w a b x y (Ok (Value.Unknown, n)) = refl
+value_first w a b x y (Ok (Value.Large, n)) = refl
+value_first w a b x y (Ok (Value.Is z, n)) = ap (λ (c : Result Unit Refusal). before x (before c y)) (fit_first (line_bits w a b z))
 
 no_room : (s : List ℕ) → not (has_room s) ≡ leb 256 (length s)
 no_room s = go (has_room s) refl
@@ -56,14 +56,14 @@ no_room s = go (has_room s) refl
     go true e = sym (lt-leb 256 (length s) (ltb-true (length s) 256 e))
     go false e = sym (le-leb 256 (length s) (ltb-false (length s) 256 e))
 
-label_first : (s : List ℕ) (k : ℕ) (y : Checked)
+label_first : (s : List ℕ) (k : ℕ) (y : Result Unit Refusal)
     → before (label_check s k) y
     ≡ before (refused_if (ltb 0 k && is_in k s) Refusal.Twice) (before (refused_if (ltb 0 k && leb 256 (length s)) Refusal.Many) y)
 unfolding label_check
 label_first s k y = rw (some_name k, ← set_is_in s k, ← no_room s) (go (eqb k 0) (is_set s k))
   where
     go : (u v : Bool)
-        → before (cond u Checked.Fine (before (refused_if v Refusal.Twice) (refused_if (not (has_room s)) Refusal.Many))) y
+        → before (cond u (Ok tt) (before (refused_if v Refusal.Twice) (refused_if (not (has_room s)) Refusal.Many))) y
         ≡ before (refused_if (not u && v) Refusal.Twice) (before (refused_if (not u && not (has_room s)) Refusal.Many) y)
     go true v = refl
     go false true = refl
@@ -74,13 +74,13 @@ module _ (t : Labels) (s : List ℕ) (p n : ℕ) (l : List ℕ) where
   unfolding line_check room_check first_of later_of
   check_first = go (is_known l)
     where
-      y : Checked
+      y : Result Unit Refusal
       y = refused_if (ltb n (p + (shape_of (what_in l)).size)) Refusal.Room
 
       v : Valued
       v = value_in t l
 
-      go : (u : Bool) → cond u (value_check (what_in l) (address_of p) (body_of l) (label_check s (own_label l)) y v) (Checked.Not Refusal.Form)
+      go : (u : Bool) → cond u (value_check (what_in l) (address_of p) (body_of l) (label_check s (own_label l)) y v) (Err Refusal.Form)
           ≡ before (refused_if (not u) Refusal.Form) (later_of (faults_of t s p n l))
       go true = value_first (what_in l) (address_of p) (body_of l) (label_check s (own_label l)) y v ∙ rw (label_first s (own_label l))
       go false = refl
@@ -128,7 +128,7 @@ module _ (f : Refusal → Bool) where
           let c : q ≡ r = sym (named_by q) ∙ ap refusal_at b ∙ named_by r in
           ap f c ∙ e
 
-  step : (r : Refusal) (rest : Checked) → NoneBelow (number_of r) → (NoneBelow (suc (number_of r)) → Lowest f rest) → Lowest f (before (refused_if (f r) r) rest)
+  step : (r : Refusal) (rest : Result Unit Refusal) → NoneBelow (number_of r) → (NoneBelow (suc (number_of r)) → Lowest f rest) → Lowest f (before (refused_if (f r) r) rest)
   step r rest h k = go (f r) refl
     where
       go : (u : Bool) → f r ≡ u → Lowest f (before (refused_if u r) rest)

@@ -1,5 +1,6 @@
 -- The row of the instruction that a line of known form says is what its fields write.
 -- Assumes nothing.
+use Rattle.std.specs.Prelude.{None, Option, Some, Ok}
 use Prim.Native.Nat.{ℕ, ◌<◌}
 use mathlib.Core.Path.{◌≡◌, refl, sym, ap, ◌∙◌}
 use mathlib.Core.Bool.{Bool, true, false, ◌&&◌}
@@ -26,7 +27,7 @@ use Rattle.listing.specs.Listing.{row_of}
 use Rattle.listing.specs.declared.Operand.{Operand}
 use Rattle.listing.specs.declared.Row.{Row}
 use Rattle.expr.specs.Expr.{Labels, value_of}
-use Rattle.expr.specs.declared.Read.{Read as Valued}
+use Rattle.expr.specs.Expr.{Read as Valued}
 use Rattle.expr.specs.declared.Value.{Value}
 use Rattle.forms.specs.Form.{tabs_in, field_at, shape, kind_shape, number_at, is_of, fields_of, tabs_for, fits_shape}
 use Rattle.forms.specs.Says.{bits_of, unfit, scaled, halves_to, words_to, says_of, bits_said}
@@ -69,7 +70,7 @@ count_fits q x y e = not_unfit nib q refl (and_left (nib q) (nib x) (and_left (n
 -- ---- rows of one, two and three operands
 
 -- the instruction of kind k that a line says at a, with the value z
-abbrev pub said_by : Kind → ByteAddr → List ℕ → ℤ → Decoded
+abbrev pub said_by : Kind → ByteAddr → List ℕ → ℤ → Option Decoded
 said_by k a b z =
     says_of k a (number_at (kind_shape k).first (field_at 2 b)) (number_at (kind_shape k).second (field_at 3 b)) (number_at (kind_shape k).third (field_at 4 b)) (bits_of z)
 
@@ -78,7 +79,7 @@ module _ (t : Labels) (b : List ℕ) (z : ℤ) (n : ℕ) where
   v = bits_of z
 
   abbrev read : Valued
-  read = Valued.Got (Value.Is z) n
+  read = Ok (Value.Is z, n)
 
   -- the operand in a field; where it is an expression, the value is its own
   abbrev at : Sort → ℕ → Operand
@@ -115,10 +116,10 @@ module _ (t : Labels) (b : List ℕ) (z : ℤ) (n : ℕ) where
 
   module _ (a : ByteAddr) (ha : a.0 < 4294967296) where
     -- an instruction that was said is of kind k, and its row is what the fields write
-    abbrev pub RowOf : Kind → Decoded → Type 0
-    RowOf k (Decoded.Short i) = (kind_by i ≡ k) × RowWrites t (row_of a i) b
-    RowOf k (Decoded.Long i) = (kind_by i ≡ k) × RowWrites t (row_of a i) b
-    RowOf k Decoded.Nothing = Unit {0}
+    abbrev pub RowOf : Kind → Option Decoded → Type 0
+    RowOf k (Some (Decoded.Short i)) = (kind_by i ≡ k) × RowWrites t (row_of a i) b
+    RowOf k (Some (Decoded.Long i)) = (kind_by i ≡ k) × RowWrites t (row_of a i) b
+    RowOf k None = Unit {0}
 
     registers : fits_shape (shape 2 Sort.Reg Sort.Reg Sort.Nothing) b ≡ true → RowWrites t (Row.Two (at Sort.Reg 2) (at Sort.Reg 3)) b
     unfolding sum_at

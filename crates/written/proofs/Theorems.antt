@@ -1,5 +1,6 @@
 -- The theorems of this crate, each with its statement; read this file alone with specs/. The proofs are in the files that it cites.
 -- Assumes nothing.
+use Rattle.std.specs.Prelude.{Err, Ok}
 use Prim.Native.Nat.{ℕ, ◌+◌, ◌%◌, ◌≤◌, ◌<◌}
 use mathlib.Core.Logic.{◌⊎◌}
 use mathlib.Core.Path.{◌≡◌, sym, ap, ◌∙◌}
@@ -16,8 +17,8 @@ use Rattle.expr.specs.declared.Value.{Value}
 use Rattle.forms.specs.Form.{lines_of, body_of, field_at, what_in, shape_of, is_known}
 use Rattle.asm.specs.Assemble.{address_of, labels_of, reply_of, line_of, end_of, line_check, room_check, line_bytes, text_labels, Answered, answered, verdict_in, assembled_of}
 use Rattle.asm.specs.declared.Refusal.{Refusal}
-use Rattle.asm.specs.declared.Checked.{Checked}
-use Rattle.asm.specs.declared.Assembled.{Assembled}
+use Rattle.asm.specs.Assemble.{Assembled}
+use Rattle.asm.proofs.Laws.{done_same}
 use Rattle.written.specs.Assembly.{is_in, written_in, first_only, known_in, first_at, check_at, faults_of, Lowest, AllFine, Told, text_code}
 use Rattle.written.specs.Written.{Shows, AllShow}
 use Rattle.written.proofs.Lines.{Fine, fine, line_size_lem, known_ends, known_label, line_shown}
@@ -28,7 +29,7 @@ use Rattle.written.proofs.Labels.{set_keys, set_means, unset_unknown}
 
 -- 1. The bytes of a line that is not refused, at its address, show what it writes: they decode to an instruction with its mnemonic, its registers and
 -- its values, or are its value, big-endian, for `half` and `word` ..
-module _ (t : Labels) (s : List ℕ) (p n : ℕ) (l : List ℕ) (ok : check_at t s p n l ≡ Checked.Fine) where
+module _ (t : Labels) (s : List ℕ) (p n : ℕ) (l : List ℕ) (ok : check_at t s p n l ≡ Ok tt) where
   known : is_known l ≡ true
   known = (fine t s (address_of p) (room_check p (shape_of (what_in l)).size n) (what_in l) l ok).known
 
@@ -53,15 +54,15 @@ lines_joined = lines_whole
 -- .. and it is assembled if its start is even and inside the image and each line is fine at its place ..
 module _ (x : List ℕ) (s : ℕ) (m : List ℕ) where
   pub fine_assembles : s % 2 ≡ 0 → s ≤ length m → AllFine (text_labels x s) [] s (length m) (lines_of x)
-      → (assembled_of x s m).assembled ≡ Assembled.Done (length (lines_of x)) (s + length (text_code x s))
+      → (assembled_of x s m).assembled ≡ Ok (length (lines_of x), s + length (text_code x s))
   unfolding assembled_of verdict_in
   fine_assembles g h f =
       let e : 0 + length (lines_of x) ≡ length (lines_of x) = omega arith in
       rw (start_good s (length m) g h) (fine_done (text_labels x s) [] s (length m) 0 (lines_of x) f ∙ rw e)
 
   -- .. and only then; ..
-  module _ (i e : ℕ) (done : (assembled_of x s m).assembled ≡ Assembled.Done i e) where
-    judged : verdict_in x s (length m) ≡ Assembled.Done i e
+  module _ (i e : ℕ) (done : (assembled_of x s m).assembled ≡ Ok (i, e)) where
+    judged : verdict_in x s (length m) ≡ Ok (i, e)
     unfolding assembled_of
     judged = done
 
@@ -80,10 +81,10 @@ module _ (x : List ℕ) (s : ℕ) (m : List ℕ) where
 
     -- .. what is answered is the number of lines and the address after the last byte, which is in the image ..
     pub lines_counted : i ≡ length (lines_of x)
-    lines_counted = let d = fine_assembles start_even start_inside lines_fine in cc
+    lines_counted = (done_same i e _ _ (sym done ∙ fine_assembles start_even start_inside lines_fine)).0
 
     pub ends_after_code : e ≡ s + length (text_code x s)
-    ends_after_code = let d = fine_assembles start_even start_inside lines_fine in cc
+    ends_after_code = (done_same i e _ _ (sym done ∙ fine_assembles start_even start_inside lines_fine)).1
 
     code_in : s + length (text_code x s) ≤ length m
     code_in = code_inside (text_labels x s) [] s (length m) (lines_of x) start_inside lines_fine
@@ -106,7 +107,7 @@ module _ (x : List ℕ) (s : ℕ) (m : List ℕ) where
     image_length = rw image_written (length-sets m s (text_code x s))
 
   -- 3. A refusal leaves the image, and tells of a start that is odd or past the image, with line 0, or of the first line that is not fine, as that line's check does.
-  module _ (r : Refusal) (i : ℕ) (no : (assembled_of x s m).assembled ≡ Assembled.Refused r i) where
+  module _ (r : Refusal) (i : ℕ) (no : (assembled_of x s m).assembled ≡ Err (r, i)) where
     pub refusal_leaves : (assembled_of x s m).image ≡ m
     unfolding assembled_of
     refusal_leaves = rw no
@@ -125,7 +126,7 @@ module _ (t : Labels) (s : List ℕ) (p n : ℕ) (l : List ℕ) where
   unfit_not_shown = unfit_none t s p n l
 
   -- .. and unknown form is told before all others, whatever else.
-  pub form_first : is_known l ≡ false → check_at t s p n l ≡ Checked.Not Refusal.Form
+  pub form_first : is_known l ≡ false → check_at t s p n l ≡ Err Refusal.Form
   unfolding line_check
   form_first e = rw e
 

@@ -1,5 +1,6 @@
 -- What bytes show has a value that fits its place, so a value that is refused is shown by none.
 -- Assumes nothing.
+use Rattle.std.specs.Prelude.{Option, Some, Ok}
 use Prim.Native.Nat.{ℕ, ◌%◌, ◌^◌, ◌<◌}
 use mathlib.Core.Logic.{inl, inr}
 use mathlib.Core.Path.{◌≡◌, refl, sym, ap, ◌∙◌}
@@ -27,7 +28,7 @@ use Rattle.listing.specs.declared.Operand.{Operand}
 use Rattle.listing.specs.declared.Row.{Row}
 use Rattle.expr.specs.Value.{signed_word}
 use Rattle.expr.specs.Expr.{Labels}
-use Rattle.expr.specs.declared.Read.{Read as Valued}
+use Rattle.expr.specs.Expr.{Read as Valued}
 use Rattle.expr.specs.declared.Value.{Value}
 use Rattle.forms.specs.Form.{body_of, field_at, what_of, what_in, kind_shape, shape_of, number_at}
 use Rattle.forms.specs.Says.{bits_of, scaled, says_of, bits_said, bits_at}
@@ -50,12 +51,12 @@ module _ (t : Labels) (a : ByteAddr) (ha : a.0 < 4294967296) (b : List ℕ) wher
   record Fit (w : What) : Type 0 where
     value : ℤ
     read : ℕ
-    valued : line_value t (shape_of w) b ≡ Valued.Got (Value.Is value) read
+    valued : line_value t (shape_of w) b ≡ Ok (Value.Is value, read)
     bits : has_bits (line_bits w a b value) ≡ true
 
   -- an instruction: the line has a value, and says it with that value
   Said : Instr → Type 0
-  Said i = (z : ℤ) × (n : ℕ) × (line_value t (kind_shape (kind_by i)) b ≡ Valued.Got (Value.Is z) n) × (bits_said (said_by (kind_by i) a b z) ≡ encode_of i)
+  Said i = (z : ℤ) × (n : ℕ) × (line_value t (kind_shape (kind_by i)) b ≡ Ok (Value.Is z, n)) × (bits_said (said_by (kind_by i) a b z) ≡ encode_of i)
 
   -- the registers c and d in the fields 2 and 3
   two_registers : (c d : ℕ) → (nib c && nib d) ≡ true → RowWrites t (Row.Two (Operand.Reg c) (Operand.Reg d)) b
@@ -120,7 +121,7 @@ module _ (t : Labels) (a : ByteAddr) (ha : a.0 < 4294967296) (b : List ℕ) wher
 
   -- ---- so what bytes show fits
 
-  instr_fits : (i : Instr) (x : Encoded) → encode_of i ≡ x → has_bits x ≡ true → RowWrites t (row_of a i) b → Fit (What.Code (kind_by i))
+  instr_fits : (i : Instr) (x : Option Encoded) → encode_of i ≡ x → has_bits x ≡ true → RowWrites t (row_of a i) b → Fit (What.Code (kind_by i))
   unfolding Said line_bits bits_at shape_of
   instr_fits i x e h r =
       let g : has_bits (encode_of i) ≡ true = rw e h in
@@ -137,9 +138,9 @@ module _ (t : Labels) (a : ByteAddr) (ha : a.0 < 4294967296) (b : List ℕ) wher
 
   shown_fits : (c : List ℕ) → Shows t a b c → Fit (what_of b)
   shown_fits c (short h i e d (name, r)) =
-      rw (instr_what h 0 i (inl (d 0)) b name) (instr_fits i (Encoded.Half h) (short_encodes h 0 i (instr_low h 0 i (inl (d 0))) (omega arith) (d 0)) refl r)
+      rw (instr_what h 0 i (inl (d 0)) b name) (instr_fits i (Some (Encoded.Half h)) (short_encodes h 0 i (instr_low h 0 i (inl (d 0))) (omega arith) (d 0)) refl r)
   shown_fits c (long h s i e l d (name, r)) =
-      rw (instr_what h s i (inr d) b name) (instr_fits i (Encoded.Pair h s) (long_encodes h s i (instr_low h s i (inr d)) l d) refl r)
+      rw (instr_what h s i (inr d) b name) (instr_fits i (Some (Encoded.Pair h s)) (long_encodes h s i (instr_low h s i (inr d)) l d) refl r)
   shown_fits c (half v e h name r) = rw (half_what b name) (half_fits v h r)
   shown_fits c (word v e name r) = rw (word_what b name) (word_fits v r)
 

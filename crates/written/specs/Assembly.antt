@@ -1,16 +1,15 @@
 -- Words that the theorems on the assembler are stated in (proofs/Theorems.antt has the statements); Written.antt has those for one line's bytes.
 -- Assumes nothing.
-use Rattle.std.specs.Prelude.{ℕ, zero, suc, ◌+◌, ◌%◌, ◌≤◌, ◌<◌, ◌≡◌, Bool, true, false, cond, not, ◌&&◌, ◌||◌, List, [], ◌∷◌, ◌++◌, ltb, leb, eqb, length, take}
+use Rattle.std.specs.Prelude.{ℕ, zero, suc, ◌+◌, ◌%◌, ◌≤◌, ◌<◌, ◌≡◌, Bool, true, false, cond, not, ◌&&◌, ◌||◌, List, [], ◌∷◌, ◌++◌, ltb, leb, eqb, length, take, Err, Ok, Result}
 use Rattle.word.specs.declared.ByteAddr.{ByteAddr}
 use Rattle.isa.specs.Statements.{has_bits}
 use Rattle.expr.specs.Expr.{Labels}
-use Rattle.expr.specs.declared.Read.{Read as Valued}
+use Rattle.expr.specs.Expr.{Read as Valued}
 use Rattle.expr.specs.declared.Value.{Value}
 use Rattle.forms.specs.Form.{lines_of, body_of, field_at, named, what_in, shape_of, is_known}
 use Rattle.forms.specs.declared.What.{What}
 use Rattle.asm.specs.Assemble.{address_of, line_value, line_bits, number_of, line_check, room_check, code_of, text_labels}
 use Rattle.asm.specs.declared.Refusal.{Refusal}
-use Rattle.asm.specs.declared.Checked.{Checked}
 
 -- ---- labels, by their names' numbers
 
@@ -47,24 +46,24 @@ first_at k p (l ∷ r) = cond (is_known l) (cond (eqb (own_label l) k) p (first_
 
 -- ---- a line at p: t all labels, s those of the lines before it, n the image's length
 
-abbrev pub check_at : Labels → List ℕ → ℕ → ℕ → List ℕ → Checked
+abbrev pub check_at : Labels → List ℕ → ℕ → ℕ → List ℕ → Result Unit Refusal
 check_at t s p n l = line_check t s (address_of p) (room_check p (shape_of (what_in l)).size n) (what_in l) l
 
 abbrev pub is_deep : Valued → Bool
-is_deep (Valued.Not e) = true
-is_deep (Valued.Got v n) = false
+is_deep (Err e) = true
+is_deep (Ok (v, n)) = false
 
 abbrev pub is_unknown : Valued → Bool
-is_unknown (Valued.Not e) = false
-is_unknown (Valued.Got Value.Unknown n) = true
-is_unknown (Valued.Got Value.Large n) = false
-is_unknown (Valued.Got (Value.Is z) n) = false
+is_unknown (Err e) = false
+is_unknown (Ok (Value.Unknown, n)) = true
+is_unknown (Ok (Value.Large, n)) = false
+is_unknown (Ok (Value.Is z, n)) = false
 
 abbrev pub is_unfit : What → ByteAddr → List ℕ → Valued → Bool
-is_unfit w a b (Valued.Not e) = false
-is_unfit w a b (Valued.Got Value.Unknown n) = false
-is_unfit w a b (Valued.Got Value.Large n) = true
-is_unfit w a b (Valued.Got (Value.Is z) n) = not (has_bits (line_bits w a b z))
+is_unfit w a b (Err e) = false
+is_unfit w a b (Ok (Value.Unknown, n)) = false
+is_unfit w a b (Ok (Value.Large, n)) = true
+is_unfit w a b (Ok (Value.Is z, n)) = not (has_bits (line_bits w a b z))
 
 abbrev pub value_in : Labels → List ℕ → Valued
 value_in t l = line_value t (shape_of (what_in l)) (body_of l)
@@ -81,23 +80,23 @@ faults_of t s p n l Refusal.Value = is_unfit (what_in l) (address_of p) (body_of
 faults_of t s p n l Refusal.Room = ltb n (p + (shape_of (what_in l)).size)
 
 -- what is told of faults: none if there are none, and else the one with the lowest number
-abbrev pub Lowest : (Refusal → Bool) → Checked → Type 0
-Lowest f Checked.Fine = (q : Refusal) → f q ≡ false
-Lowest f (Checked.Not r) = (f r ≡ true) × ((q : Refusal) → number_of q < number_of r → f q ≡ false)
+abbrev pub Lowest : (Refusal → Bool) → Result Unit Refusal → Type 0
+Lowest f (Ok _) = (q : Refusal) → f q ≡ false
+Lowest f (Err r) = (f r ≡ true) × ((q : Refusal) → number_of q < number_of r → f q ≡ false)
 
 -- ---- the lines of a text, the first at p: s the labels of those before it
 
 -- all are fine
 abbrev pub AllFine : Labels → List ℕ → ℕ → ℕ → List (List ℕ) → Type 0
 AllFine t s p n [] = Unit {0}
-AllFine t s p n (l ∷ r) = (check_at t s p n l ≡ Checked.Fine) × AllFine t (s ++ own_labels l) (p + (shape_of (what_in l)).size) n r
+AllFine t s p n (l ∷ r) = (check_at t s p n l ≡ Ok tt) × AllFine t (s ++ own_labels l) (p + (shape_of (what_in l)).size) n r
 
 -- the first k are fine, and the next is refused
 abbrev pub FineThenNot : Labels → List ℕ → ℕ → ℕ → ℕ → Refusal → List (List ℕ) → Type 0
 FineThenNot t s p n k q [] = ⊥
-FineThenNot t s p n zero q (l ∷ r) = check_at t s p n l ≡ Checked.Not q
+FineThenNot t s p n zero q (l ∷ r) = check_at t s p n l ≡ Err q
 FineThenNot t s p n (suc k) q (l ∷ r) =
-    (check_at t s p n l ≡ Checked.Fine) × FineThenNot t (s ++ own_labels l) (p + (shape_of (what_in l)).size) n k q r
+    (check_at t s p n l ≡ Ok tt) × FineThenNot t (s ++ own_labels l) (p + (shape_of (what_in l)).size) n k q r
 
 -- why line i of a text that starts at s is refused with q: "29 start odd or past the image (line 0)", or it is the first line that is not fine
 pub data Told (t : Labels) (s n : ℕ) (q : Refusal) (i : ℕ) (ls : List (List ℕ)) : Type 0 where

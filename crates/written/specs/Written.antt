@@ -1,7 +1,7 @@
 -- What a line's bytes show of it (document 02, ticket 4): "What assembles decodes to the written instruction and values". Said by what the decoder and
 -- the listing make of the bytes, beside the line's fields as they stand; of the assembler's own words there are only the fields and an expression's value.
 -- Assumes nothing.
-use Rattle.std.specs.Prelude.{ℕ, ◌+◌, ◌/◌, ◌%◌, ◌<◌, ◌≡◌, List, [], ◌∷◌, ◌++◌, length}
+use Rattle.std.specs.Prelude.{ℕ, ◌+◌, ◌/◌, ◌%◌, ◌<◌, ◌≡◌, List, [], ◌∷◌, ◌++◌, length, Some, Ok}
 use Rattle.word.specs.declared.ByteAddr.{ByteAddr}
 use Rattle.isa.specs.Decode.{decode_of}
 use Rattle.isa.specs.declared.Instr.{Instr}
@@ -13,7 +13,7 @@ use Rattle.listing.specs.declared.Operand.{Operand}
 use Rattle.listing.specs.declared.Row.{Row}
 use Rattle.expr.specs.Value.{signed_word}
 use Rattle.expr.specs.Expr.{Labels, value_of}
-use Rattle.expr.specs.declared.Read.{Read as Valued}
+use Rattle.expr.specs.Expr.{Read as Valued}
 use Rattle.expr.specs.declared.Value.{Value}
 use Rattle.forms.specs.Form.{body_of, tabs_in, field_at}
 use Rattle.asm.specs.Assemble.{address_of}
@@ -23,7 +23,7 @@ use Rattle.asm.specs.Assemble.{address_of}
 abbrev pub Writes : Labels → Operand → List ℕ → Type 0
 Writes t (Operand.Reg n) f = operand_text (Operand.Reg n) ≡ tab f
 Writes t (Operand.Sfr n) f = operand_text (Operand.Sfr n) ≡ tab f
-Writes t (Operand.Number v) f = (v < 4294967296) × (value_of t f ≡ Valued.Got (Value.Is (signed_word v)) (length f))
+Writes t (Operand.Number v) f = (v < 4294967296) × (value_of t f ≡ Ok (Value.Is (signed_word v), length f))
 Writes t (Operand.Bits h) f = ⊥
 
 -- the fields after label and mnemonic write the operands, one each, and there are no more: each field but the first has a tab before it
@@ -38,8 +38,8 @@ InstrWrites t a h i b = (name_at (place_of (h / 256)) ≡ field_at 1 b) × RowWr
 
 -- c are bytes at a that show what the line b writes, big-endian: an instruction of two bytes, whatever half follows; one of four; `half` or `word` with a value
 pub data Shows (t : Labels) (a : ByteAddr) (b c : List ℕ) : Type 0 where
-  short : (h : ℕ) (i : Instr) → c ≡ h / 256 ∷ h % 256 ∷ [] → ((s : ℕ) → decode_of h s ≡ Decoded.Short i) → InstrWrites t a h i b → Shows t a b c
-  long : (h s : ℕ) (i : Instr) → c ≡ h / 256 ∷ h % 256 ∷ s / 256 ∷ s % 256 ∷ [] → s < 65536 → decode_of h s ≡ Decoded.Long i → InstrWrites t a h i b
+  short : (h : ℕ) (i : Instr) → c ≡ h / 256 ∷ h % 256 ∷ [] → ((s : ℕ) → decode_of h s ≡ Some (Decoded.Short i)) → InstrWrites t a h i b → Shows t a b c
+  long : (h s : ℕ) (i : Instr) → c ≡ h / 256 ∷ h % 256 ∷ s / 256 ∷ s % 256 ∷ [] → s < 65536 → decode_of h s ≡ Some (Decoded.Long i) → InstrWrites t a h i b
       → Shows t a b c
   half : (v : ℕ) → c ≡ v / 256 ∷ v % 256 ∷ [] → v < 65536 → ascii "half" ≡ field_at 1 b → RowWrites t (Row.One (Operand.Number v)) b → Shows t a b c
   word : (v : ℕ) → c ≡ v / 16777216 ∷ v / 65536 % 256 ∷ v / 256 % 256 ∷ v % 256 ∷ [] → ascii "word" ≡ field_at 1 b

@@ -1,7 +1,7 @@
 -- The machine over any rules of the marks: the step of crates/instruction/specs/Act.antt and crates/machine/specs/Step.antt with the rules as a parameter,
 -- and rules that mark too little.
 -- Assumes nothing.
-use Rattle.std.specs.Prelude.{ℕ, zero, suc, ◌+◌, ◌/◌, Bool, false, cond, not, ◌&&◌, List, eqb, get_or}
+use Rattle.std.specs.Prelude.{ℕ, zero, suc, ◌+◌, ◌/◌, Bool, false, cond, not, ◌&&◌, List, eqb, get_or, Err, None, Ok, Option, Result, Some}
 use Rattle.word.specs.declared.ByteAddr.{ByteAddr}
 use Rattle.word.specs.declared.Width.{Width}
 use Rattle.isa.specs.Encode.{encode_of}
@@ -18,7 +18,6 @@ use Rattle.instruction.specs.Fetch.{fetch_of}
 use Rattle.instruction.specs.Act.{Val, reach_of, outside, loaded_from, loaded_mark}
 use Rattle.instruction.specs.declared.Reply.{Reply}
 use Rattle.instruction.specs.declared.Halt.{Halt}
-use Rattle.instruction.specs.declared.Fetched.{Fetched}
 use Rattle.instruction.specs.declared.Reach.{Reach}
 use Rattle.instruction.specs.declared.Act.{Act}
 use Rattle.machine.specs.State.{value_at}
@@ -26,8 +25,6 @@ use Rattle.machine.specs.Step.{Stepped, completed, chosen, stored_to, data_of, e
 use Rattle.machine.specs.Run.{Final, final, judge, go_on}
 use Rattle.machine.specs.declared.State.{State}
 use Rattle.machine.specs.declared.Event.{Event}
-use Rattle.machine.specs.declared.Data.{Data}
-use Rattle.machine.specs.declared.Judged.{Judged}
 use Rattle.wrong.specs.Models.{Model}
 
 -- which operands stop an instruction, which results become marked, and what a store makes of memory's marks
@@ -58,7 +55,7 @@ marked_with q (Reach.Reads w a) b k = k
 marked_with q (Reach.Writes w a) b k = q.stored w k a b
 marked_with q (Reach.Raises n) b k = k
 
-abbrev pub act_step_with : Rules → Act → Data → Val → Flags → Control → List ℕ → Marks → Stepped
+abbrev pub act_step_with : Rules → Act → Option ByteAddr → Val → Flags → Control → List ℕ → Marks → Stepped
 act_step_with q (Act.Halted h) a x f c m k = halt_step h a f c m k
 act_step_with q (Act.Does e t r) a x f c m k = completed (done_of c e t r) (stored_to r x.value m) (marked_with q r x.mark k) (line_of c e r)
 
@@ -73,9 +70,9 @@ instr_step_with q i s m k =
     m
     k
 
-abbrev pub fetch_step_with : Rules → Fetched → State → List ℕ → Marks → Stepped
-fetch_step_with q (Fetched.Halted h) s m k = halt_step h Data.Nowhere s.flags s.control m k
-fetch_step_with q (Fetched.Run i) s m k = instr_step_with q i s m k
+abbrev pub fetch_step_with : Rules → Result Instr Halt → State → List ℕ → Marks → Stepped
+fetch_step_with q (Err h) s m k = halt_step h None s.flags s.control m k
+fetch_step_with q (Ok i) s m k = instr_step_with q i s m k
 
 abbrev pub event_step_with : Rules → Event → State → List ℕ → Marks → Stepped
 event_step_with q (Event.Enter e) s m k = entry_step e s.flags s.control m k
@@ -90,9 +87,9 @@ unfoldable pub steps_with : Rules → ℕ → ℕ → List ℕ → State → Lis
 steps_with q zero n t s m k = final Reply.Budget n s m k
 steps_with q (suc b) n t s m k = go_on (steps_with q b (n + 1) t) n s m k (step_with q (get_or t n 0) s m k)
 
-abbrev pub judged_with : Rules → Judged → ℕ → List ℕ → State → List ℕ → Marks → Final
-judged_with q (Judged.Refused r) b t s m k = final r 0 s m k
-judged_with q Judged.Good b t s m k = steps_with q b 0 t s m k
+abbrev pub judged_with : Rules → Result Unit Reply → ℕ → List ℕ → State → List ℕ → Marks → Final
+judged_with q (Err r) b t s m k = final r 0 s m k
+judged_with q (Ok _) b t s m k = steps_with q b 0 t s m k
 
 unfoldable pub run_with : Rules → Model
 run_with q b t s m k = judged_with q (judge b t s m k) b t s m k
@@ -100,10 +97,10 @@ run_with q b t s m k = judged_with q (judge b t s m k) b t s m k
 -- ---- rules that mark too little, each right but for one line
 
 -- the first byte of its bits; 0, which is no instruction's, where it has none
-abbrev pub byte_in : Encoded → ℕ
-byte_in Encoded.Nothing = 0
-byte_in (Encoded.Half h) = h / 256
-byte_in (Encoded.Pair h s) = h / 256
+abbrev pub byte_in : Option Encoded → ℕ
+byte_in None = 0
+byte_in (Some (Encoded.Half h)) = h / 256
+byte_in (Some (Encoded.Pair h s)) = h / 256
 
 unfoldable pub begins : ℕ → Instr → Bool
 begins n i = eqb (byte_in (encode_of i)) n

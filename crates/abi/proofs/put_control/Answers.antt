@@ -3,5 +3,5 @@ use Rattle.abi.proofs.put_control.Goals as goal
 
 pub returns : goal.returns
 returns c =
-    rw (c.put_flags-2.ensures, c.put_words-2.ensures, c.put_flags.ensures, c.put_words.ensures)
+    rw (c.put-4.ensures, c.put-3.ensures, c.put-2.ensures, c.put.ensures)
     (control_written c.args.r.now c.args.f c.args.c)

@@ -3,4 +3,4 @@ use Rattle.abi.proofs.state_at.Goals as goal
 
 pub returns : goal.returns
 unfolding state_at
-returns c = rw (c.control_at.ensures, c.flag_at-2.ensures, c.flag_at.ensures, c.marks_at.ensures, c.registers_at.ensures)
+returns c = rw (c.control_at.ensures, c.at-2.ensures, c.at.ensures, c.sixteen_at-2.ensures, c.sixteen_at.ensures)

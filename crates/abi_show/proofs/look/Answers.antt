@@ -1,10 +1,10 @@
 use Rattle.abi_show.specs.Show.{look_of}
 use Rattle.abi_show.proofs.look.Goals as goal
 
-pub returns-in-Refused : goal.returns-in-Refused
+pub returns-in-Err : goal.returns-in-Err
 unfolding look_of
-returns-in-Refused c = rw (← c.judge_all-j.ensures, c.in-Refused.is)
+returns-in-Err c = rw (← c.judge_all.ensures, c.in-Err.is)
 
-pub returns-in-Good : goal.returns-in-Good
+pub returns-in-Ok : goal.returns-in-Ok
 unfolding look_of
-returns-in-Good c = rw (c.show.ensures, ← c.judge_all-j.ensures, c.in-Good.is)
+returns-in-Ok c = rw (c.show.ensures, c.from.ensures, ← c.judge_all.ensures, c.in-Ok.is)

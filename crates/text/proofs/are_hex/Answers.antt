@@ -1,18 +1,11 @@
-use Rattle.text.proofs.Laws.{hex_on, hex_stop, hex_none}
-use Rattle.text.specs.Digits.{are_hex}
-use mathlib.Core.Path.{sym, ◌∙◌}
-use Prim.Native.Nat.{◌-◌}
-use native.Mathlib.Omega.{arith}
+use Rattle.std.proofs.Common.{ltb, sym, ◌∙◌, rules, tests}
+use Rattle.std.proofs.lemmas.Iterator.{YieldsList-from_slice}
+use Rattle.std.proofs.lemmas.Iterator.Search.{all_from_yields_List}
+use Rattle.text.specs.Digits.{value_of}
+use Rattle.text.proofs.Laws.{hex_is}
 use Rattle.text.proofs.are_hex.Goals as goal
 
-pub returns-then-value-ge16 : goal.returns-then-value-ge16
-returns-then-value-ge16 c = sym (hex_stop _ _ c.loop-i-test.true _ c.value.ensures.0 c.if-value-ge16.true) ∙ c.loop-i.invariant.1
-
-pub loop-i-preserved : goal.loop-i-preserved
-loop-i-preserved c = (
-  omega arith,
-  sym (hex_on _ _ c.loop-i-test.true _ c.value.ensures.0 c.if-value-ge16.false) ∙ c.loop-i.invariant.1,
-)
-
 pub returns : goal.returns
-returns c = sym (hex_none _ _ c.loop-i-test.false) ∙ c.loop-i.invariant.1
+returns c =
+    all_from_yields_List (λ x. ltb (value_of x) 16) _ _ _ c.all.ensures.ran (YieldsList-from_slice c.args.l.now cc) (λ x b q k. search (rules, tests))
+    ∙ sym (hex_is _)

@@ -1,20 +1,21 @@
 use mir.Syntax.{w32}
 use mir.ValLaws.{to_z-of_z}
+use borrow.Author.Rules.{rules}
 use Rattle.asm.specs.Assemble.{value_in}
 use Rattle.asm.proofs.lines.value_in.Goals as goal
 
+pub returns-in_default : goal.returns-in_default
+unfolding value_in
+returns-in_default c = rw c.in_default.is
+
 pub returns-in-Is : goal.returns-in-Is
 unfolding value_in
-returns-in-Is c = rw (c.in-Got.is, c.in-Is.is) (to_z-of_z w32 c.in-Is.z (record { sfits = c.in-Is.known_told-in-Got-1-own.given.0.1 }))
+returns-in-Is c = rw (to_z-of_z w32 c.in-Is.z (record { sfits = search rules }), c.in-Ok.is, c.in-Is.is)
 
 pub returns-in-Large : goal.returns-in-Large
 unfolding value_in
-returns-in-Large c = rw (c.in-Got.is, c.in-Large.is)
+returns-in-Large c = rw (c.in-Ok.is, c.in-Large.is)
 
 pub returns-in-Unknown : goal.returns-in-Unknown
 unfolding value_in
-returns-in-Unknown c = rw (c.in-Got.is, c.in-Unknown.is)
-
-pub returns-in-Not : goal.returns-in-Not
-unfolding value_in
-returns-in-Not c = rw c.in-Not.is
+returns-in-Unknown c = rw (c.in-Ok.is, c.in-Unknown.is)

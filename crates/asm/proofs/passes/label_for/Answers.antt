@@ -3,8 +3,8 @@ use Rattle.asm.proofs.passes.label_for.Goals as goal
 
 pub returns-then-known : goal.returns-then-known
 unfolding label_for
-returns-then-known c = rw (c.label_in.ensures, c.if-known.true)
+returns-then-known c = rw (c.label.ensures, c.if-known.true)
 
-pub returns : goal.returns
+pub returns-else-known : goal.returns-else-known
 unfolding label_for
-returns c = rw c.if-known.false
+returns-else-known c = rw c.if-known.false

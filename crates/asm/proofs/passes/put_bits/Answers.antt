@@ -4,12 +4,12 @@ use Rattle.asm.proofs.passes.put_bits.Goals as goal
 
 pub returns-in-Half : goal.returns-in-Half
 unfolding bytes_in
-returns-in-Half c = rw (c.in-Half.is, ← c.put_all.ensures)
+returns-in-Half c = rw (c.in-Some.is, c.in-Half.is, ← c.put_all.ensures)
 
 pub returns-in-Pair : goal.returns-in-Pair
 unfolding bytes_in
-returns-in-Pair c = rw (c.in-Pair.is, ← c.put_all-in-Pair.ensures)
+returns-in-Pair c = rw (c.in-Some.is, c.in-Pair.is, ← c.put_all-in-Pair.ensures)
 
-pub returns-in-Nothing : goal.returns-in-Nothing
+pub returns-in_default : goal.returns-in_default
 unfolding bytes_in write_on
-returns-in-Nothing c = rw c.in-Nothing.is
+returns-in_default c = rw c.in_default.is

@@ -1,13 +1,13 @@
 use native.Mathlib.Omega.{arith}
 use mathlib.Core.Path.{refl}
-use Rattle.expr.specs.Expr.{size_of}
-use Rattle.expr.specs.Expr.{joined_of}
+use Rattle.std.proofs.lemmas.Result.{err_from_is_err_and}
+use Rattle.expr.specs.Expr.{joined_of, size_of}
 use Rattle.expr.proofs.cycle.joined.Goals as goal
 
-pub returns-in-Got : goal.returns-in-Got
+pub returns-in_err-w : goal.returns-in_err-w
 unfolding joined_of size_of
-returns-in-Got c = rw (c.combine.ensures, c.in-Got.is) (refl, omega arith)
+returns-in_err-w c = let p = err_from_is_err_and c.from_residual.result c.from_residual.ensures.1 in rw (p.1, p.2, c.in_err-w.was) (refl, omega arith)
 
-pub returns-in-Not : goal.returns-in-Not
+pub returns : goal.returns
 unfolding joined_of size_of
-returns-in-Not c = rw c.in-Not.is (refl, omega arith)
+returns c = rw (c.combine.ensures, c.in_ok-w.was) (refl, omega arith)

@@ -1,26 +1,28 @@
 use native.Mathlib.Omega.{arith}
-use mathlib.Core.Path.{sym, ap, ◌∙◌}
-use Rattle.expr.specs.Parts.{told_by, place_of, open_of}
+use mathlib.Core.Path.{sym, ◌∙◌}
+use Rattle.expr.specs.Parts.{told_by}
 use Rattle.expr.proofs.Walk.{walk_end, sum_walk}
 use Rattle.expr.proofs.form.is_sum.Goals as goal
 
-pub loop-at-init : goal.loop-at-init
-loop-at-init c = (omega arith, omega arith, sum_walk _)
+pub loop-turn-init : goal.loop-turn-init
+loop-turn-init c = (omega arith, omega arith, sum_walk _)
 
-pub loop-at-smaller : goal.loop-at-smaller
-unfolding place_of
-loop-at-smaller c = let h = ap (place_of c.loop-at.at) c.in-On.is in omega arith
+pub loop-turn-smaller : goal.loop-turn-smaller
+loop-turn-smaller c = let h = c.in-Some.ensures.further in omega arith
 
-pub loop-at-preserved : goal.loop-at-preserved
-unfolding told_by place_of open_of
-loop-at-preserved c = (let h = ap (place_of c.loop-at.at) c.in-On.is in omega arith, let h = ap (place_of c.loop-at.at) c.in-On.is in let k = ap open_of c.in-On.is in omega arith, c.loop-at.invariant.2 ∙ sym c.step-next.ensures.0 ∙ ap (told_by _) c.in-On.is)
-
-pub returns-in-No : goal.returns-in-No
+pub loop-turn-preserved : goal.loop-turn-preserved
 unfolding told_by
-returns-in-No c = sym (c.loop-at.invariant.2 ∙ sym c.step-next.ensures.0 ∙ ap (told_by _) c.in-No.is)
+loop-turn-preserved c = let h = c.in-Some.ensures.further in (h.1, c.in-Some.next.within, c.loop-turn.invariant.2 ∙ sym c.in-Some.ensures.told)
 
-pub returns-then-wanted : goal.returns-then-wanted
-returns-then-wanted c = sym (c.loop-at.invariant.2 ∙ walk_end _ _ c.loop-at-test.false _ _ _ ∙ rw c.if-wanted.true)
+pub invariant_of-turn : goal.invariant_of-turn
+invariant_of-turn c = record { within = c.loop-turn.invariant.1 }
 
-pub returns : goal.returns
-returns c = sym (c.loop-at.invariant.2 ∙ walk_end _ _ c.loop-at-test.false _ _ _ ∙ rw c.if-wanted.false)
+pub returns-in_default : goal.returns-in_default
+unfolding told_by
+returns-in_default c = c.in_default.ensures.told ∙ sym c.loop-turn.invariant.2
+
+pub returns-then-not-turn : goal.returns-then-not-turn
+returns-then-not-turn c = sym (c.loop-turn.invariant.2 ∙ walk_end _ _ c.loop-turn-test.false _ _ _ ∙ rw c.if-not-turn.true)
+
+pub returns-else-not-turn : goal.returns-else-not-turn
+returns-else-not-turn c = rw c.if-not-turn.false (sym (c.loop-turn.invariant.2 ∙ walk_end _ _ c.loop-turn-test.false _ _ _ ∙ rw c.if-not-turn.false))

@@ -5,8 +5,9 @@ use Rattle.expr.specs.Expr.{is_sum}
 use Rattle.expr.specs.Parts.{walk}
 use Rattle.expr.proofs.form.is_sum.Given as goal
 
-abbrev pub invariant-loop-at : goal.invariant-loop-at
-invariant-loop-at l = (l.at ≤ length l.s) × (l.depth ≤ l.at) × (is_sum l.s ≡ walk l.wanted l.minus l.depth 0 (drop l.at l.s))
+-- the turn's fields, in their order
+abbrev pub invariant-loop-turn : goal.invariant-loop-turn
+invariant-loop-turn l = (l.turn.1.1.1.0 ≤ length l.s) × (l.turn.1.1.0 ≤ l.turn.1.1.1.0) × (is_sum l.s ≡ walk l.turn.0 l.turn.1.0 l.turn.1.1.0 0 (drop l.turn.1.1.1.0 l.s))
 
-abbrev pub decreases-loop-at : goal.decreases-loop-at
-decreases-loop-at l = length l.s - l.at
+abbrev pub decreases-loop-turn : goal.decreases-loop-turn
+decreases-loop-turn l = length l.s - l.turn.1.1.1.0

@@ -1,11 +1,10 @@
 use mathlib.Core.Path.{◌≡◌}
-use Rattle.expr.specs.Expr.{index_of}
-use lib.ListN.{length, drop}
-use Prim.Native.Nat.{◌+◌, ◌-◌, ◌≤◌}
+use lib.ListN.{length}
+use Rattle.expr.specs.Expr.{found}
 use Rattle.expr.proofs.labels.find.Given as goal
 
-abbrev pub invariant-loop-i : goal.invariant-loop-i
-invariant-loop-i l = (l.i ≤ length l.keys) × (index_of l.keys l.k ≡ index_of (drop l.i l.keys) l.k + l.i)
+abbrev pub invariant-loop-rest : goal.invariant-loop-rest
+invariant-loop-rest l = found l.labels l.k ≡ found l.rest l.k
 
-abbrev pub decreases-loop-i : goal.decreases-loop-i
-decreases-loop-i l = length l.keys - l.i
+abbrev pub decreases-loop-rest : goal.decreases-loop-rest
+decreases-loop-rest l = length l.rest

@@ -1,13 +1,12 @@
-use borrow.Author.Tests.{lt-ltb, le-ltb}
 use mir.Syntax.{w32}
 use mir.ValLaws.{to_z-of_z}
-use Rattle.expr.specs.Expr.{meaning}
+use Rattle.expr.proofs.Names.{found_means}
+use Rattle.expr.proofs.Signed.{signed_bits}
 use Rattle.expr.proofs.labels.mean.Goals as goal
 
-pub returns-then-i-keys : goal.returns-then-i-keys
-unfolding meaning
-returns-then-i-keys c = rw (to_z-of_z w32 c.signed_word.result (record { sfits = c.signed_word.type_inv }), c.signed_word.ensures, c.place.ensures, ← c.find-i.ensures.0, lt-ltb _ _ c.if-i-keys.true)
+pub returns-in-Some : goal.returns-in-Some
+returns-in-Some c =
+    rw (← found_means c.args.labels.now c.args.k, ← c.find.ensures, c.in-Some.is, to_z-of_z w32 c.cast_signed.result (record { sfits = c.cast_signed.type_inv }), c.cast_signed.ensures, signed_bits)
 
-pub returns : goal.returns
-unfolding meaning
-returns c = rw (← c.find-i.ensures.0, le-ltb _ _ c.if-i-keys.false)
+pub returns-in-None : goal.returns-in-None
+returns-in-None c = rw (← found_means c.args.labels.now c.args.k, ← c.find.ensures, c.in-None.is)

@@ -1,34 +1,33 @@
-use Rattle.std.proofs.Common.{arith}
+use borrow.Author.Rules.{rules}
 use mir.Syntax.{w32}
 use mir.ValLaws.{to_z-of_z}
 use Rattle.expr.specs.Value.{combined}
-use borrow.Author.Rules.{rules}
 use Rattle.expr.proofs.values.combine.Goals as goal
 
-pub returns-in-Unknown : goal.returns-in-Unknown
+pub returns-in-Is-Is : goal.returns-in-Is-Is
 unfolding combined
-returns-in-Unknown c = rw c.in-Unknown.is
+returns-in-Is-Is c = rw (c.apply.ensures, to_z-of_z w32 c.in-Is-Is.x (record { sfits = search rules }), to_z-of_z w32 c.in-Is-Is.y (record { sfits = search rules }), c.in-Is-Is.is-0, c.in-Is-Is.is-1)
 
-pub returns-in-Unknown-b : goal.returns-in-Unknown-b
+pub returns-in-Large-default : goal.returns-in-Large-default
 unfolding combined
-returns-in-Unknown-b c = rw (c.in-Unknown-b.is, c.in-Large.is)
+returns-in-Large-default c = rw (c.in-Large-default.is-0, c.in-Large-default.is-1)
 
-pub returns-in-Large-b : goal.returns-in-Large-b
+pub returns-in-Large-default-2 : goal.returns-in-Large-default-2
 unfolding combined
-returns-in-Large-b c = rw (c.in-Large-b.is, c.in-Large.is)
+returns-in-Large-default-2 c = rw (c.in-Large-default.is-0, c.in-Large-default.is-1)
 
-pub returns-in-Is-b : goal.returns-in-Is-b
+pub returns-in-Large-default-3 : goal.returns-in-Large-default-3
 unfolding combined
-returns-in-Is-b c = rw (c.in-Is-b.is, c.in-Large.is)
+returns-in-Large-default-3 c = rw (c.in-Large-default.is-0, c.in-Large-default.is-1)
 
-pub returns-in-Unknown-b-2 : goal.returns-in-Unknown-b-2
+pub returns-in-Unknown-default : goal.returns-in-Unknown-default
 unfolding combined
-returns-in-Unknown-b-2 c = rw (c.in-Unknown-b-2.is, c.in-Is.is)
+returns-in-Unknown-default c = rw c.in-Unknown-default.is-0
 
-pub returns-in-Large-b-2 : goal.returns-in-Large-b-2
+pub returns-in-Unknown-default-2 : goal.returns-in-Unknown-default-2
 unfolding combined
-returns-in-Large-b-2 c = rw (c.in-Large-b-2.is, c.in-Is.is)
+returns-in-Unknown-default-2 c = rw (c.in-Unknown-default.is-0, c.in-Unknown-default.is-1)
 
-pub returns-in-Is-b-2 : goal.returns-in-Is-b-2
+pub returns-in-Unknown-default-3 : goal.returns-in-Unknown-default-3
 unfolding combined
-returns-in-Is-b-2 c = rw (c.apply.ensures, to_z-of_z w32 c.in-Is-b-2.y (record { sfits = omega arith }), to_z-of_z w32 c.in-Is.x (record { sfits = search rules }), c.in-Is-b-2.is, c.in-Is.is)
+returns-in-Unknown-default-3 c = rw (c.in-Unknown-default.is-0, c.in-Unknown-default.is-1)

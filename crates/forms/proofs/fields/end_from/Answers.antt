@@ -1,13 +1,11 @@
-use Prim.Native.Nat.{◌-◌}
-use mathlib.Core.Path.{◌∙◌}
-use Rattle.forms.proofs.Laws.{end_there, end_on, end_none}
+use Rattle.std.proofs.Common.{rules, tests}
+use Rattle.std.proofs.lemmas.Iterator.{YieldsList-from_slice}
+use Rattle.std.proofs.lemmas.Iterator.Search.{position_from_yields_List}
+use Rattle.forms.proofs.Laws.{is_end, end_found}
 use Rattle.forms.proofs.fields.end_from.Goals as goal
 
-pub returns-then-t-i-eq10 : goal.returns-then-t-i-eq10
-returns-then-t-i-eq10 c = end_there _ _ c.loop-i-test.true c.if-t-i-eq10.true ∙ c.loop-i.invariant
-
-pub loop-i-preserved : goal.loop-i-preserved
-loop-i-preserved c = end_on _ _ c.loop-i-test.true c.if-t-i-eq10.false ∙ c.loop-i.invariant
-
 pub returns : goal.returns
-returns c = end_none _ _ c.loop-i-test.false ∙ c.loop-i.invariant
+returns c =
+    let l = c.end_part-rest.result.now in
+    let p = position_from_yields_List is_end _ _ c.position.result c.position.ensures.ran (YieldsList-from_slice l cc) (λ x b q k. search (rules, tests)) in
+    end_found c.args.t.now l c.args.from _ _ c.end_part-rest.ensures c.unwrap_or.ensures p

@@ -1,10 +1,13 @@
 use Rattle.forms.specs.Form.{numbered_of}
+use Rattle.forms.proofs.Laws.{same_bytes}
 use Rattle.forms.proofs.shapes.numbered.Goals as goal
 
-pub returns-then-is_same : goal.returns-then-is_same
+pub returns-in-Some : goal.returns-in-Some
 unfolding numbered_of
-returns-then-is_same c = rw (c.below_limit.ensures, c.decimal.ensures, c.end_part.ensures, ← c.start_part.ensures, ← c.is_same.ensures, c.if-is_same.true)
+returns-in-Some c =
+    let h = c.in-Some.ensures.cases in
+    rw (c.below_limit.ensures, c.decimal.ensures, h.1, same_bytes, h.0)
 
-pub returns : goal.returns
+pub returns-in-None : goal.returns-in-None
 unfolding numbered_of
-returns c = rw (← c.start_part.ensures, ← c.is_same.ensures, c.if-is_same.false)
+returns-in-None c = rw (same_bytes, c.in-None.ensures.cases)

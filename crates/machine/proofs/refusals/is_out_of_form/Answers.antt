@@ -1,6 +1,16 @@
+use Rattle.std.proofs.Common.{arith}
+use Rattle.std.proofs.lemmas.Grind.{common_steps}
 use Rattle.machine.specs.State.{out_of_form}
 use Rattle.machine.proofs.refusals.is_out_of_form.Goals as goal
 
-pub returns : goal.returns
+pub returns-then-c : goal.returns-then-c
 unfolding out_of_form
-returns c = rw (c.either-3.ensures, c.either-2.ensures, c.either-low.ensures, c.either.ensures, c.both-late.ensures, c.field-fixed.ensures, c.is_on-twelve.ensures)
+returns-then-c c = grind (arith, common_steps)
+
+pub returns-else-c : goal.returns-else-c
+unfolding out_of_form
+returns-else-c c = grind (arith, common_steps)
+
+pub returns-then-c-gt511 : goal.returns-then-c-gt511
+unfolding out_of_form
+returns-then-c-gt511 c = grind (arith, common_steps)

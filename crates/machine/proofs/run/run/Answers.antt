@@ -8,12 +8,12 @@ use Rattle.machine.proofs.run.run.Goals as goal
 pub steps-requires : goal.steps-requires
 steps-requires c =
     let a = c.args in
-    omega (arith, long_tape a.b a.t.now a.s a.m.now (bits a.k.now) (sym c.judge_all-j.ensures ∙ c.in-Good.is))
+    omega (arith, long_tape a.b a.t.now a.s a.m.now (bits a.k.now) (sym c.judge_all.ensures ∙ c.in-Ok.is))
 
-pub returns-in-Refused : goal.returns-in-Refused
+pub returns-in-Err : goal.returns-in-Err
 unfolding run_of
-returns-in-Refused c = rw (← c.judge_all-j.ensures, c.in-Refused.is) (record { value = refl; m_after = refl; k_after = refl })
+returns-in-Err c = rw (← c.judge_all.ensures, c.in-Err.is, c.end_at.ensures) (record { value = refl; m_after = refl; k_after = refl })
 
-pub returns-in-Good : goal.returns-in-Good
+pub returns-in-Ok : goal.returns-in-Ok
 unfolding run_of
-returns-in-Good c = rw (← c.judge_all-j.ensures, c.in-Good.is) c.steps.ensures
+returns-in-Ok c = rw (← c.judge_all.ensures, c.in-Ok.is) c.steps.ensures

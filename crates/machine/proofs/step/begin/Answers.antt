@@ -3,12 +3,12 @@ use Rattle.machine.proofs.step.begin.Goals as goal
 
 pub returns-in-Enter : goal.returns-in-Enter
 unfolding begun_of
-returns-in-Enter c = rw (c.enter.ensures, ← c.choose-e.ensures, c.in-Enter.is)
+returns-in-Enter c = rw (c.enter.ensures, ← c.choose.ensures, c.in-Enter.is)
 
-pub returns-in-Halted : goal.returns-in-Halted
+pub returns-in-Err : goal.returns-in-Err
 unfolding begun_of
-returns-in-Halted c = rw (← c.choose-e.ensures, c.in-Instruction.is, ← c.first_half-f.ensures, c.in-Halted.is)
+returns-in-Err c = rw (← c.choose.ensures, c.in-Instruction.is, ← c.first_half.ensures, c.in-Err.is)
 
-pub returns-in-Bits : goal.returns-in-Bits
+pub returns-in-Ok : goal.returns-in-Ok
 unfolding begun_of
-returns-in-Bits c = rw (← c.choose-e.ensures, c.in-Instruction.is, ← c.first_half-f.ensures, c.in-Bits.is)
+returns-in-Ok c = rw (← c.choose.ensures, c.in-Instruction.is, ← c.first_half.ensures, c.in-Ok.is)

@@ -1,27 +1,15 @@
-use Rattle.std.proofs.Common.{arith, sym, ◌∙◌}
-use Rattle.manik_list.proofs.Laws.{number_on, number_stop, number_none, number_over, word_none, word_first}
+use Rattle.std.proofs.Common.{◌+◌, drop, arith, sym, ◌∙◌}
+use Rattle.manik_list.proofs.Laws.{number_on, number_over}
 use Rattle.manik_list.proofs.numbers.digits.Goals as goal
 
-pub returns-then-word-eq0 : goal.returns-then-word-eq0
-returns-then-word-eq0 c = sym (word_none _ _ c.if-word-eq0.true)
+pub returns-in_err-shifted : goal.returns-in_err-shifted
+returns-in_err-shifted c =
+    let on = number_on _ _ c.loop-c-test.true _ c.loop-c.v _ c.digit-d.ensures.0 c.if-base-d.false in
+    let over = number_over (drop (c.loop-c.c-index + 1) c.args.word.now) _ _ c.requires.0 (omega (arith, c.in_err-shifted.ensures)) in
+    c.from_residual.ensures ∙ sym (on ∙ over) ∙ c.loop-c.invariant.same
 
-pub loop-i-init : goal.loop-i-init
-loop-i-init c = record { inside = omega arith; fits = omega arith; same = word_first _ _ c.if-word-eq0.false }
-
-pub returns-then-base-d : goal.returns-then-base-d
-returns-then-base-d c = sym (number_stop _ _ c.loop-i-test.true _ _ _ c.digit-d.ensures.0 c.if-base-d.true) ∙ c.loop-i.invariant.same
-
-pub returns-then-v-gt4294967295 : goal.returns-then-v-gt4294967295
-returns-then-v-gt4294967295 c =
-    sym (number_on _ _ c.loop-i-test.true _ _ _ c.digit-d.ensures.0 c.if-base-d.false ∙ number_over _ _ _ c.requires.0 c.if-v-gt4294967295.true)
-    ∙ c.loop-i.invariant.same
-
-pub loop-i-preserved : goal.loop-i-preserved
-loop-i-preserved c = record {
-  inside = omega arith;
-  fits = omega arith;
-  same = sym (number_on _ _ c.loop-i-test.true _ _ _ c.digit-d.ensures.0 c.if-base-d.false) ∙ c.loop-i.invariant.same;
-}
-
-pub returns : goal.returns
-returns c = sym (number_none _ _ _ _ c.loop-i-test.false c.loop-i.invariant.fits) ∙ c.loop-i.invariant.same
+pub returns-in_err-v : goal.returns-in_err-v
+returns-in_err-v c =
+    let on = number_on _ _ c.loop-c-test.true _ c.loop-c.v _ c.digit-d.ensures.0 c.if-base-d.false in
+    let over = number_over (drop (c.loop-c.c-index + 1) c.args.word.now) _ _ c.requires.0 (omega (arith, c.in_ok-shifted.ensures, c.in_err-v.ensures)) in
+    c.from_residual-in_err-v.ensures ∙ sym (on ∙ over) ∙ c.loop-c.invariant.same

@@ -1,5 +1,5 @@
 use Prim.Native.Nat.{◌/◌, ◌<◌}
-use native.Mathlib.Omega.{arith}
+use Rattle.std.proofs.Common.{arith, rules, tests}
 use lib.ListN.{get_or}
 use mathlib.Core.Path.{sym}
 use Rattle.marks.proofs.Places.{past_none, end_field}
@@ -11,5 +11,5 @@ returns-then-j-k c =
     let l : get_or a.k.now (a.n / 8) 0 < 256 = omega (arith, c.type_inv.k (a.n / 8)) in
     sym (end_field a.n a.k.now l)
 
-pub returns : goal.returns
-returns c = sym (past_none _ _ _ c.if-j-k.false)
+pub returns-else-j-k : goal.returns-else-j-k
+returns-else-j-k c = rw (past_none _ _ _ c.if-j-k.false) (search (rules, tests))

@@ -1,11 +1,6 @@
-use Prim.Native.Nat.{◌-◌, ◌≤◌}
 use mathlib.Core.Path.{◌≡◌}
-use lib.ListN.{length}
 use Rattle.marks.specs.Memory.{bits, put_marks}
 use Rattle.marks.proofs.memory.put_one_by_one.Given as goal
 
 abbrev pub invariant-loop-i : goal.invariant-loop-i
-invariant-loop-i l = (l.i ≤ l.n) × (length l.k ≡ length l.initial.k) × (bits l.k ≡ put_marks l.i (bits l.initial.k) l.at l.m)
-
-abbrev pub decreases-loop-i : goal.decreases-loop-i
-decreases-loop-i l = l.n - l.i
+invariant-loop-i l = bits l.k ≡ put_marks l.i (bits l.initial.k) l.at l.m

@@ -1,4 +1,3 @@
-use Prim.Native.Nat.{◌-◌}
 use native.Mathlib.Omega.{arith}
 use Rattle.marks.proofs.Masks.{set_small, byte_set, byte_cleared}
 use borrow.Author.Rules.{rules}

@@ -1,16 +1,9 @@
-use borrow.Author.Rules.{rules}
 use Rattle.text.proofs.Pages.{write_more, write_none}
 use mathlib.Core.Path.{sym, ◌∙◌}
-use Prim.Native.Nat.{◌-◌}
-use native.Mathlib.Omega.{arith}
 use Rattle.text.proofs.writing.put_some.Goals as goal
 
-pub loop-i-preserved : goal.loop-i-preserved
-loop-i-preserved c = (
-  omega arith,
-  rw c.put-at.ensures (sym (write_more _ _ _ c.loop-i-test.true) ∙ c.loop-i.invariant.1),
-  search rules,
-)
+pub loop-b-preserved : goal.loop-b-preserved
+loop-b-preserved c = rw c.put-at.ensures (sym (write_more _ _ _ c.loop-b-test.true) ∙ c.loop-b.invariant)
 
 pub returns : goal.returns
-returns c = sym (write_none _ _ _ c.loop-i-test.false) ∙ c.loop-i.invariant.1
+returns c = sym (write_none _ _ _ c.loop-b-test.false) ∙ c.loop-b.invariant

@@ -1,5 +1,6 @@
 use Rattle.text.proofs.Spelling.{place_left, place_spelled, decimal_on, decimal_last}
-use lib.ListN.{length-set}
+use lib.ListN.{length-drop, length-set}
+use lib.Seq.{take_all}
 use mathlib.Core.Path.{◌∙◌}
 use native.Mathlib.Omega.{arith}
 use Rattle.text.proofs.writing.spelled.Goals as goal
@@ -18,4 +19,7 @@ loop-rest-preserved c =
 pub returns : goal.returns
 returns c =
     let i = c.loop-rest.invariant in
-    rw c.glyph-2.ensures (decimal_last _ _ _ i.1 i.0 (omega (arith, i.0, i.3)) c.loop-rest-test.false ∙ i.4)
+    rw c.glyph-2.ensures
+    (take_all _ _ (simp (length-drop, length-set) (omega (arith, i.3)))
+    ∙ decimal_last _ _ _ i.1 i.0 (omega (arith, i.0, i.3)) c.loop-rest-test.false
+    ∙ i.4)

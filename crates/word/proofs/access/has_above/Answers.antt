@@ -1,20 +1,13 @@
-use Rattle.std.proofs.Common.{◌≡◌, ◌-◌, Bool, true, false, ◌||◌, sym, refl, ◌∙◌, arith}
-use Rattle.word.proofs.Memory.{above_more, above_none}
+use Rattle.std.proofs.Common.{sym, ◌∙◌}
+use Rattle.std.proofs.Math.Bool.{or_assoc, or-false}
+use Rattle.std.proofs.lemmas.List.{at_drop_more, at_drop_all}
+use Rattle.word.specs.Bytes.{any_above}
 use Rattle.word.proofs.access.has_above.Goals as goal
 
-or-again : (a b c : Bool) → ((a || b) || c) ≡ (a || (b || c))
-or-again true b c = refl
-or-again false b c = refl
-
-or-none : (a : Bool) → (a || false) ≡ a
-or-none true = refl
-or-none false = refl
-
-pub loop-i-preserved : goal.loop-i-preserved
-loop-i-preserved c = (
-  omega arith,
-  rw (c.either-found.ensures, or-again, ← (above_more c.args.limit c.args.k.now c.loop-i.i c.loop-i-test.true)) c.loop-i.invariant.1,
-)
+pub loop-x-preserved : goal.loop-x-preserved
+unfolding any_above
+loop-x-preserved c = rw (or_assoc, ← at_drop_more (any_above c.args.limit) c.args.k.now c.loop-x.x-index 0 c.loop-x-test.true) c.loop-x.invariant
 
 pub returns : goal.returns
-returns c = sym (or-none _) ∙ rw (above_none _ _ _ c.loop-i-test.false) at c.loop-i.invariant.1
+unfolding any_above
+returns c = sym (or-false _) ∙ rw (at_drop_all (any_above c.args.limit) c.args.k.now c.loop-x.x-index c.loop-x-test.false) at c.loop-x.invariant

@@ -1,0 +1,41 @@
+use Prim.Native.Nat.{◌+◌, ◌^◌, ◌<◌}
+use mathlib.Core.Path.{refl, sym, ◌∙◌}
+use native.Mathlib.Omega.{arith}
+use Rattle.forms.proofs.Cuts.{line_next}
+use Rattle.asm.proofs.Laws.{labels_on, labels_end, known_on, known_end}
+use Rattle.asm.proofs.passes.Source.collect.Goals as goal
+
+pub overflow_add-at : goal.overflow_add-at
+overflow_add-at c =
+    let l = c.new-line.result in
+    let g = line_next c.args.self.now.text.now l.text.now c.loop-at.at l.cut c.loop-at-test.true (c.new-line.ensures ∙ c.end_part.ensures) l.is_cut in
+    let k = c.loop-at.invariant.fits in
+    let w = g.within in
+    let h : l.cut.end + 1 < 2 ^ 64 = omega arith in
+    record { fits = h }
+
+pub overflow_add-at-in-loop-at : goal.overflow_add-at-in-loop-at
+overflow_add-at-in-loop-at c =
+    let l = c.new-line.result in
+    let g = line_next c.args.self.now.text.now l.text.now c.loop-at.at l.cut c.loop-at-test.true (c.new-line.ensures ∙ c.end_part.ensures) l.is_cut in
+    let k = c.loop-at.invariant.fits in
+    let w = g.within in
+    let h : c.loop-at.at + (l.cut.end + 1) < 2 ^ 64 = omega arith in
+    record { fits = h }
+
+pub loop-at-preserved : goal.loop-at-preserved
+loop-at-preserved c =
+    let l = c.new-line.result in
+    let g = line_next c.args.self.now.text.now l.text.now c.loop-at.at l.cut c.loop-at-test.true (c.new-line.ensures ∙ c.end_part.ensures) l.is_cut in
+    record {
+      within = g.within;
+      labels = labels_on _ _ _ _ _ _ _ _ _ _ _ g.lines c.what-w.ensures c.is_known_as-is_known.ensures c.label_for.ensures c.add.ensures c.bytes_for.ensures c.byte_sum-a.ensures ∙ c.loop-at.invariant.labels;
+      known = known_on _ _ _ _ c.loop-at.known _ _ g.lines c.what-w.ensures c.is_known_as-is_known.ensures refl ∙ c.loop-at.invariant.known;
+      fits = c.loop-at.invariant.fits;
+    }
+
+pub returns : goal.returns
+returns c =
+    let i = c.loop-at.invariant in
+    let x = c.args.self.now.text.now in
+    record { labels_value = sym (labels_end x c.loop-at.at c.loop-at-test.false _ _) ∙ i.labels; known_value = known_end x c.loop-at.at c.loop-at-test.false c.loop-at.known ∙ i.known }

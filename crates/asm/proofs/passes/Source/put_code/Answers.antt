@@ -1,0 +1,39 @@
+use Prim.Native.Nat.{◌+◌, ◌^◌, ◌<◌}
+use mathlib.Core.Path.{sym, ◌∙◌}
+use native.Mathlib.Omega.{arith}
+use borrow.Author.Rules.{rules}
+use Rattle.forms.proofs.Cuts.{line_next}
+use Rattle.asm.proofs.Laws.{code_on, code_end}
+use Rattle.asm.proofs.passes.Source.put_code.Goals as goal
+
+pub overflow_add-at : goal.overflow_add-at
+overflow_add-at c =
+    let l = c.new-line.result in
+    let g = line_next c.args.self.now.text.now l.text.now c.loop-at.at l.cut c.loop-at-test.true (c.new-line.ensures ∙ c.end_part.ensures) l.is_cut in
+    let k = c.loop-at.invariant.fits in
+    let w = g.within in
+    let h : l.cut.end + 1 < 2 ^ 64 = omega arith in
+    record { fits = h }
+
+pub overflow_add-at-in-loop-at : goal.overflow_add-at-in-loop-at
+overflow_add-at-in-loop-at c =
+    let l = c.new-line.result in
+    let g = line_next c.args.self.now.text.now l.text.now c.loop-at.at l.cut c.loop-at-test.true (c.new-line.ensures ∙ c.end_part.ensures) l.is_cut in
+    let k = c.loop-at.invariant.fits in
+    let w = g.within in
+    let h : c.loop-at.at + (l.cut.end + 1) < 2 ^ 64 = omega arith in
+    record { fits = h }
+
+pub loop-at-preserved : goal.loop-at-preserved
+loop-at-preserved c =
+    let l = c.new-line.result in
+    let g = line_next c.args.self.now.text.now l.text.now c.loop-at.at l.cut c.loop-at-test.true (c.new-line.ensures ∙ c.end_part.ensures) l.is_cut in
+    record {
+      within = g.within;
+      same = search rules;
+      written = code_on _ _ _ _ _ _ _ _ _ _ _ g.lines c.what-w.ensures c.bytes_for.ensures c.byte_sum-a.ensures c.encoded.ensures c.put_bits-to.ensures ∙ c.loop-at.invariant.written;
+      fits = c.loop-at.invariant.fits;
+    }
+
+pub returns : goal.returns
+returns c = sym (code_end c.args.self.now.text.now c.loop-at.at c.loop-at-test.false _ _ _) ∙ c.loop-at.invariant.written

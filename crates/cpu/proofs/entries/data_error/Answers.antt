@@ -1,6 +1,0 @@
-use Rattle.cpu.specs.Entries.{entered}
-use Rattle.cpu.proofs.entries.data_error.Goals as goal
-
-pub returns : goal.returns
-unfolding entered
-returns c = rw (c.enter_error.ensures, c.go_on.ensures)

@@ -1,7 +1,0 @@
-use Rattle.std.proofs.Common.{refl}
-use Rattle.cpu.specs.Control.{with_sfr}
-use Rattle.cpu.proofs.places.with_ra.Goals as goal
-
-pub returns : goal.returns
-unfolding with_sfr
-returns c = refl

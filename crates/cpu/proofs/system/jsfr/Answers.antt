@@ -1,7 +1,0 @@
-use Rattle.cpu.specs.Exec.{makes, exec}
-use Rattle.cpu.specs.Cycles.{cost_of}
-use Rattle.cpu.proofs.system.jsfr.Goals as goal
-
-pub returns : goal.returns
-unfolding exec makes cost_of
-returns c = rw (c.move_to.ensures, c.go_to.ensures, c.leave_by.ensures, c.sfr_of.ensures)

@@ -1,9 +1,0 @@
--- Each pass leaves seven bytes less.
-use Rattle.std.proofs.Common.{◌≤◌}
-use Rattle.examples.proofs.feed_all.Given as goal
-
-abbrev pub invariant-loop-left : goal.invariant-loop-left
-invariant-loop-left g l = l.left ≤ l.fn.count
-
-abbrev pub decreases-loop-left : goal.decreases-loop-left
-decreases-loop-left g l = l.left

@@ -1,8 +1,0 @@
-use Rattle.std.proofs.Common.{◌-◌, ◌≤◌}
-use Rattle.vectors_isa.proofs.words.results.Given as goal
-
-abbrev pub invariant-loop-n : goal.invariant-loop-n
-invariant-loop-n l = l.n ≤ 2304
-
-abbrev pub decreases-loop-n : goal.decreases-loop-n
-decreases-loop-n l = 2304 - l.n
