@@ -173,16 +173,16 @@ module _ (x : List ℕ) (i : ℕ) (h : length x ≤ i) where
   code_end t a p = rw lines_end
 
 -- what is fine has room
-fine_last : (x y z : Result Unit Refusal) → before x (before y z) ≡ (Ok tt) → z ≡ (Ok tt)
+fine_last : (x y z : Result Unit Refusal) → before x (before y z) ≡ Ok tt → z ≡ Ok tt
 fine_last (Ok _) (Ok _) z e = e
 fine_last (Ok _) (Err r) z e = let n : ◌≡◌ {A = ℕ} 0 1 = cc in absurd (omega arith)
 fine_last (Err r) y z e = let n : ◌≡◌ {A = ℕ} 0 1 = cc in absurd (omega arith)
 
-fine_before : (x : Result Unit Refusal) (r : Refusal) → before x (Err r) ≡ (Ok tt) → ⊥
+fine_before : (x : Result Unit Refusal) (r : Refusal) → before x (Err r) ≡ Ok tt → ⊥
 fine_before (Ok _) r e = let n : ◌≡◌ {A = ℕ} 0 1 = cc in absurd (omega arith)
 fine_before (Err q) r e = let n : ◌≡◌ {A = ℕ} 0 1 = cc in absurd (omega arith)
 
-fine_value : (w : What) (a : ByteAddr) (b : List ℕ) (x y : Result Unit Refusal) (v : Valued) → value_check w a b x y v ≡ (Ok tt) → y ≡ (Ok tt)
+fine_value : (w : What) (a : ByteAddr) (b : List ℕ) (x y : Result Unit Refusal) (v : Valued) → value_check w a b x y v ≡ Ok tt → y ≡ Ok tt
 unfolding value_check
 fine_value w a b x y (Err e) q = let n : ◌≡◌ {A = ℕ} 0 1 = cc in absurd (omega arith)
 fine_value w a b x y (Ok (Value.Unknown, n)) q = let n : ◌≡◌ {A = ℕ} 0 1 = cc in absurd (omega arith)
@@ -190,28 +190,28 @@ fine_value w a b x y (Ok (Value.Large, n)) q = absurd (fine_before x Refusal.Val
 fine_value w a b x y (Ok (Value.Is z, n)) q = fine_last x (fit_check (line_bits w a b z)) y q
 
 pub fine_room : (t : Labels) (s : List ℕ) (a : ByteAddr) (p n m : ℕ) (w : What) (l : List ℕ)
-    → line_check t s a (room_check p n m) w l ≡ (Ok tt) → p + n ≤ m
+    → line_check t s a (room_check p n m) w l ≡ Ok tt → p + n ≤ m
 unfolding line_check room_check
 fine_room t s a p n m w l e = room (ltb m (p + n)) refl (known (is_known_as w l) e)
   where
     y : Result Unit Refusal
     y = refused_if (ltb m (p + n)) Refusal.Room
 
-    known : (u : Bool) → cond u (value_check w a (body_of l) (label_check s (label_in l)) y (line_value t (shape_of w) (body_of l))) (Err Refusal.Form) ≡ (Ok tt) → y ≡ (Ok tt)
+    known : (u : Bool) → cond u (value_check w a (body_of l) (label_check s (label_in l)) y (line_value t (shape_of w) (body_of l))) (Err Refusal.Form) ≡ Ok tt → y ≡ Ok tt
     known true q = fine_value w a (body_of l) (label_check s (label_in l)) y (line_value t (shape_of w) (body_of l)) q
     known false q = let n : ◌≡◌ {A = ℕ} 0 1 = cc in absurd (omega arith)
 
-    room : (u : Bool) → ltb m (p + n) ≡ u → refused_if u Refusal.Room ≡ (Ok tt) → p + n ≤ m
+    room : (u : Bool) → ltb m (p + n) ≡ u → refused_if u Refusal.Room ≡ Ok tt → p + n ≤ m
     room true f q = let n : ◌≡◌ {A = ℕ} 0 1 = cc in absurd (omega arith)
     room false f q = ltb-false m (p + n) f
 
 pub verdict_on : (s r l z v : List ℕ) (t : Labels) (w : What) (p n m k i j : ℕ) (c : Result Unit Refusal)
-    → lines_of s ≡ l ∷ lines_of r → w ≡ what_in l → n ≡ bytes_for true w → c ≡ line_check t z (address_of p) (room_check p n m) w l → c ≡ (Ok tt) → k ≡ label_in l
+    → lines_of s ≡ l ∷ lines_of r → w ≡ what_in l → n ≡ bytes_for true w → c ≡ line_check t z (address_of p) (room_check p n m) w l → c ≡ Ok tt → k ≡ label_in l
     → v ≡ with_name z k → j ≡ suc i
     → verdict_of t v (p + n) m j (lines_of r) ≡ verdict_of t z p m i (lines_of s)
 unfolding verdict_of bytes_for
 verdict_on s r l z v t w p n m k i j c e f g h q a b d =
-    let u : line_check t z (address_of p) (room_check p (shape_of (what_in l)).size m) (what_in l) l ≡ (Ok tt) = rw (← f, ← g, ← h) q in
+    let u : line_check t z (address_of p) (room_check p (shape_of (what_in l)).size m) (what_in l) l ≡ Ok tt = rw (← f, ← g, ← h) q in
     rw (e, u, d, b, a, g, f)
 
 pub verdict_stops : (s r l z : List ℕ) (t : Labels) (w : What) (p n m i j : ℕ) (c : Result Unit Refusal) (x : Refusal)

@@ -119,8 +119,8 @@ label_check s k = cond (eqb k 0) (Ok tt) (before (refused_if (is_set s k) Refusa
 
 -- "35 value that doesn't fit its place"
 abbrev pub fit_check : Option Encoded → Result Unit Refusal
-fit_check (Some (Encoded.Half h)) = (Ok tt)
-fit_check (Some (Encoded.Pair h s)) = (Ok tt)
+fit_check (Some (Encoded.Half h)) = Ok tt
+fit_check (Some (Encoded.Pair h s)) = Ok tt
 fit_check None = Err Refusal.Value
 
 -- "31 ninth parenthesis, 32 unknown label", then those of the line's own label, then 35, and "36 no room in the image": x is of its own label, y of its room

@@ -125,17 +125,17 @@ pub record Fine (t : Labels) (s : List ℕ) (a : ByteAddr) (y : Result Unit Refu
   pub value : ℤ
   pub read : ℕ
   pub valued : line_value t (shape_of w) (body_of l) ≡ Ok (Value.Is value, read)
-  pub label : label_check s (label_in l) ≡ (Ok tt)
-  pub fits : fit_check (line_bits w a (body_of l) value) ≡ (Ok tt)
-  pub room : y ≡ (Ok tt)
+  pub label : label_check s (label_in l) ≡ Ok tt
+  pub fits : fit_check (line_bits w a (body_of l) value) ≡ Ok tt
+  pub room : y ≡ Ok tt
 
-fine_both : (x y : Result Unit Refusal) → before x y ≡ (Ok tt) → (x ≡ (Ok tt)) × (y ≡ (Ok tt))
+fine_both : (x y : Result Unit Refusal) → before x y ≡ Ok tt → (x ≡ Ok tt) × (y ≡ Ok tt)
 fine_both (Ok _) y e = (refl, e)
 fine_both (Err r) y e = let z : ◌≡◌ {A = ℕ} 0 1 = cc in absurd (omega arith)
 
 module _ (t : Labels) (s : List ℕ) (a : ByteAddr) (y : Result Unit Refusal) (w : What) (l : List ℕ) where
   by_value : is_known_as w l ≡ true → (v : Valued) → line_value t (shape_of w) (body_of l) ≡ v
-      → value_check w a (body_of l) (label_check s (label_in l)) y v ≡ (Ok tt) → Fine t s a y w l
+      → value_check w a (body_of l) (label_check s (label_in l)) y v ≡ Ok tt → Fine t s a y w l
   unfolding value_check
   by_value k (Err e) p q = let z : ◌≡◌ {A = ℕ} 0 1 = cc in absurd (omega arith)
   by_value k (Ok (Value.Unknown, n)) p q = let z : ◌≡◌ {A = ℕ} 0 1 = cc in absurd (omega arith)
@@ -147,32 +147,32 @@ module _ (t : Labels) (s : List ℕ) (a : ByteAddr) (y : Result Unit Refusal) (w
       let c = fine_both (fit_check (line_bits w a (body_of l) z)) y b.1 in
       record { known = k; value = z; read = n; valued = p; label = b.0; fits = c.0; room = c.1 }
 
-  pub fine : line_check t s a y w l ≡ (Ok tt) → Fine t s a y w l
+  pub fine : line_check t s a y w l ≡ Ok tt → Fine t s a y w l
   unfolding line_check
   fine e = go (is_known_as w l) refl e
     where
       v : Valued
       v = line_value t (shape_of w) (body_of l)
 
-      go : (u : Bool) → is_known_as w l ≡ u → cond u (value_check w a (body_of l) (label_check s (label_in l)) y v) (Err Refusal.Form) ≡ (Ok tt) → Fine t s a y w l
+      go : (u : Bool) → is_known_as w l ≡ u → cond u (value_check w a (body_of l) (label_check s (label_in l)) y v) (Err Refusal.Form) ≡ Ok tt → Fine t s a y w l
       go true k q = by_value k v refl q
       go false k q = let z : ◌≡◌ {A = ℕ} 0 1 = cc in absurd (omega arith)
 
 -- ---- its bits
 
-said_size : (x : Option Encoded) (d : Option Decoded) (n : ℕ) → fit_check x ≡ (Ok tt) → Whole x d n → length (bytes_in x) ≡ n
+said_size : (x : Option Encoded) (d : Option Decoded) (n : ℕ) → fit_check x ≡ Ok tt → Whole x d n → length (bytes_in x) ≡ n
 unfolding Whole bytes_in
 said_size (Some (Encoded.Half h)) d n f q = q.1
 said_size (Some (Encoded.Pair h y)) d n f q = q.1
 said_size None d n f q = let z : ◌≡◌ {A = ℕ} 0 1 = cc in absurd (omega arith)
 
-said_decodes : (x : Option Encoded) (d : Option Decoded) (n : ℕ) → fit_check x ≡ (Ok tt) → Whole x d n → Decodes x d
+said_decodes : (x : Option Encoded) (d : Option Decoded) (n : ℕ) → fit_check x ≡ Ok tt → Whole x d n → Decodes x d
 unfolding Whole
 said_decodes (Some (Encoded.Half h)) d n f q = q.0
 said_decodes (Some (Encoded.Pair h y)) d n f q = q.0
 said_decodes None d n f q = let z : ◌≡◌ {A = ℕ} 0 1 = cc in absurd (omega arith)
 
-half_fits : (v : ℕ) (t : Bool) → ltb v 65536 ≡ t → fit_check (only t (Some (Encoded.Half v))) ≡ (Ok tt)
+half_fits : (v : ℕ) (t : Bool) → ltb v 65536 ≡ t → fit_check (only t (Some (Encoded.Half v))) ≡ Ok tt
     → (v < 65536) × (bytes_in (only t (Some (Encoded.Half v))) ≡ v / 256 ∷ v % 256 ∷ [])
 unfolding bytes_in
 half_fits v true e f = (ltb-true v 65536 e, refl)
@@ -186,19 +186,19 @@ word_bytes v =
     let r : v % 65536 % 256 ≡ v % 256 = omega arith in
     rw (p, q, r)
 
-pub bits_size : (w : What) (a : ByteAddr) (b : List ℕ) (z : ℤ) → fit_check (line_bits w a b z) ≡ (Ok tt) → length (bytes_in (line_bits w a b z)) ≡ (shape_of w).size
+pub bits_size : (w : What) (a : ByteAddr) (b : List ℕ) (z : ℤ) → fit_check (line_bits w a b z) ≡ Ok tt → length (bytes_in (line_bits w a b z)) ≡ (shape_of w).size
 unfolding line_bits bits_at shape_of
 bits_size (What.Code k) a b z f = said_size _ _ _ f (bits_said_lem k a _ _ _ _)
 bits_size What.Half a b z f = ap length (half_fits (bits_of z) _ refl f).1
 bits_size What.Word a b z f = ap length (word_bytes (bits_of z))
 
-pub bits_say : (w : What) (a : ByteAddr) (b : List ℕ) (z : ℤ) → bits_of z < 4294967296 → fit_check (line_bits w a b z) ≡ (Ok tt) → Says w a b z (line_bits w a b z)
+pub bits_say : (w : What) (a : ByteAddr) (b : List ℕ) (z : ℤ) → bits_of z < 4294967296 → fit_check (line_bits w a b z) ≡ Ok tt → Says w a b z (line_bits w a b z)
 unfolding line_bits bits_at shape_of
 bits_say (What.Code k) a b z h f = said_decodes _ _ _ f (bits_said_lem k a _ _ _ _)
 bits_say What.Half a b z h f = half_fits (bits_of z) _ refl f
 bits_say What.Word a b z h f = (h, word_bytes (bits_of z))
 
-pub line_size_lem : (t : Labels) (s : List ℕ) (a : ByteAddr) (y : Result Unit Refusal) (w : What) (l : List ℕ) → line_check t s a y w l ≡ (Ok tt)
+pub line_size_lem : (t : Labels) (s : List ℕ) (a : ByteAddr) (y : Result Unit Refusal) (w : What) (l : List ℕ) → line_check t s a y w l ≡ Ok tt
     → length (line_bytes t a w l) ≡ (shape_of w).size
 unfolding line_bytes value_in
 line_size_lem t s a y w l e = let f = fine t s a y w l e in rw f.valued (bits_size w a (body_of l) f.value f.fits)

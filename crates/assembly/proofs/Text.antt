@@ -28,7 +28,7 @@ address_on p n =
 
 -- ---- none refused
 
-done_fine : (c : Result Unit Refusal) (j i e : ℕ) (rest : Assembled) → go_on c j rest ≡ Ok (i, e) → (c ≡ (Ok tt)) × (rest ≡ Ok (i, e))
+done_fine : (c : Result Unit Refusal) (j i e : ℕ) (rest : Assembled) → go_on c j rest ≡ Ok (i, e) → (c ≡ Ok tt) × (rest ≡ Ok (i, e))
 done_fine (Ok _) j i e rest q = (refl, q)
 done_fine (Err r) j i e rest q = let z : ◌≡◌ {A = ℕ} 0 1 = cc in absurd (omega arith)
 
@@ -39,11 +39,11 @@ all_fine t s p n j i e (l ∷ r) q =
     let d = done_fine (check_at t s p n l) (suc j) i e _ q in
     (d.0, all_fine t (with_name s (label_in l)) (p + (shape_of (what_in l)).size) n (suc j) i e r d.1)
 
-room_for : (p n m : ℕ) → room_check p n m ≡ (Ok tt) → p + n ≤ m
+room_for : (p n m : ℕ) → room_check p n m ≡ Ok tt → p + n ≤ m
 unfolding room_check
 room_for p n m e = go (ltb m (p + n)) refl e
   where
-    go : (u : Bool) → ltb m (p + n) ≡ u → refused_if u Refusal.Room ≡ (Ok tt) → p + n ≤ m
+    go : (u : Bool) → ltb m (p + n) ≡ u → refused_if u Refusal.Room ≡ Ok tt → p + n ≤ m
     go true f q = let z : ◌≡◌ {A = ℕ} 0 1 = cc in absurd (omega arith)
     go false f q = ltb-false m (p + n) f
 
@@ -51,7 +51,7 @@ code_none : (t : Labels) (a : ByteAddr) → length (code_of t a []) ≡ 0
 unfolding code_of
 code_none t a = refl
 
-code_step : (t : Labels) (s : List ℕ) (p n : ℕ) (l : List ℕ) (r : List (List ℕ)) → check_at t s p n l ≡ (Ok tt)
+code_step : (t : Labels) (s : List ℕ) (p n : ℕ) (l : List ℕ) (r : List (List ℕ)) → check_at t s p n l ≡ Ok tt
     → length (code_of t (address_of p) (l ∷ r)) ≡ (shape_of (what_in l)).size + length (code_of t (address_of (p + (shape_of (what_in l)).size)) r)
 unfolding code_of
 code_step t s p n l r e = rw (length-append, line_size_lem t s (address_of p) (room_check p (shape_of (what_in l)).size n) (what_in l) l e, address_on)

@@ -32,7 +32,7 @@ use Rattle.assembly.proofs.Order.{lowest_told}
 use Rattle.assembly.proofs.Labels.{few_labels, first_written}
 
 -- 1. A line that is not refused has a value ..
-module _ (t : Labels) (s : List ℕ) (a : ByteAddr) (y : Result Unit Refusal) (w : What) (l : List ℕ) (ok : line_check t s a y w l ≡ (Ok tt)) where
+module _ (t : Labels) (s : List ℕ) (a : ByteAddr) (y : Result Unit Refusal) (w : What) (l : List ℕ) (ok : line_check t s a y w l ≡ Ok tt) where
   f : Fine t s a y w l
   f = fine t s a y w l ok
 

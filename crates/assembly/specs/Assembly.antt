@@ -79,14 +79,14 @@ check_at t s p n l = line_check t s (address_of p) (room_check p (shape_of (what
 -- all are fine
 abbrev pub AllFine : Labels → List ℕ → ℕ → ℕ → List (List ℕ) → Type 0
 AllFine t s p n [] = Unit {0}
-AllFine t s p n (l ∷ r) = (check_at t s p n l ≡ (Ok tt)) × AllFine t (with_name s (label_in l)) (p + (shape_of (what_in l)).size) n r
+AllFine t s p n (l ∷ r) = (check_at t s p n l ≡ Ok tt) × AllFine t (with_name s (label_in l)) (p + (shape_of (what_in l)).size) n r
 
 -- the first k are fine, and the next is refused
 abbrev pub FineThenNot : Labels → List ℕ → ℕ → ℕ → ℕ → Refusal → List (List ℕ) → Type 0
 FineThenNot t s p n k q [] = ⊥
 FineThenNot t s p n zero q (l ∷ r) = check_at t s p n l ≡ Err q
 FineThenNot t s p n (suc k) q (l ∷ r) =
-    (check_at t s p n l ≡ (Ok tt)) × FineThenNot t (with_name s (label_in l)) (p + (shape_of (what_in l)).size) n k q r
+    (check_at t s p n l ≡ Ok tt) × FineThenNot t (with_name s (label_in l)) (p + (shape_of (what_in l)).size) n k q r
 
 -- why line i is refused: the start is outside the image, and no line is; or it is the first that is not fine
 abbrev pub Told : Bool → Labels → ℕ → ℕ → Refusal → ℕ → List (List ℕ) → Type 0

@@ -256,11 +256,11 @@ module _ (b n : ℕ) (t : List ℕ) (regs : List ℕ) (marks : List Bool) (f : F
       ∙ rw (v.1, v.2, x, y, p, q)
 
 -- what is not refused: the tape is long enough
-passes : (u : Bool) (r : Reply) (x : Result Unit Reply) → cond u (Err r) x ≡ (Ok tt) → (u ≡ false) × (x ≡ (Ok tt))
+passes : (u : Bool) (r : Reply) (x : Result Unit Reply) → cond u (Err r) x ≡ Ok tt → (u ≡ false) × (x ≡ Ok tt)
 passes true r x e = let z : ◌≡◌ {A = ℕ} 0 1 = cc in absurd (omega arith)
 passes false r x e = (refl, e)
 
-pub long_tape : (b : ℕ) (t : List ℕ) (s : State) (m : List ℕ) (k : Marks) → judge b t s m k ≡ (Ok tt) → b ≤ length t
+pub long_tape : (b : ℕ) (t : List ℕ) (s : State) (m : List ℕ) (k : Marks) → judge b t s m k ≡ Ok tt → b ≤ length t
 unfolding judge
 long_tape b t s m k e =
     let six : Result Unit Reply = cond (any_above 63 (take b t)) (Err Reply.TapeByte) (Ok tt) in
@@ -268,8 +268,8 @@ long_tape b t s m k e =
     let four : Result Unit Reply = cond (out_of_form s.control) (Err Reply.Form) five in
     let three : Result Unit Reply = cond (bad_mark (length m) k) (Err Reply.MarkPastEnd) four in
     let two : Result Unit Reply = cond (bad_room (length m) k) (Err Reply.MarkLength) three in
-    let b1 : two ≡ (Ok tt) = (passes (bad_length (length m)) Reply.MemoryLength two e).1 in
-    let b2 : three ≡ (Ok tt) = (passes (bad_room (length m) k) Reply.MarkLength three b1).1 in
-    let b3 : four ≡ (Ok tt) = (passes (bad_mark (length m) k) Reply.MarkPastEnd four b2).1 in
-    let b4 : five ≡ (Ok tt) = (passes (out_of_form s.control) Reply.Form five b3).1 in
+    let b1 : two ≡ Ok tt = (passes (bad_length (length m)) Reply.MemoryLength two e).1 in
+    let b2 : three ≡ Ok tt = (passes (bad_room (length m) k) Reply.MarkLength three b1).1 in
+    let b3 : four ≡ Ok tt = (passes (bad_mark (length m) k) Reply.MarkPastEnd four b2).1 in
+    let b4 : five ≡ Ok tt = (passes (out_of_form s.control) Reply.Form five b3).1 in
     ltb-false (length t) b (passes (ltb (length t) b) Reply.TapeLength six b4).0

@@ -4,7 +4,7 @@ ghost use Rattle.word.specs.Bits.{on};
 ghost use Rattle.cpu.specs.Entries.{entered, passed};
 ghost use Rattle.cpu.specs.Cycles.{entry_cost};
 ghost use Rattle.marks.specs.Memory.{bits};
-ghost use Rattle.instruction.specs.Parts.{val, flags};
+ghost use Rattle.instruction.specs.Parts.{val};
 ghost use Rattle.machine.specs.Step.{stored_to, marked_to, entry_by, done_of};
 ghost use Rattle.machine.specs.Parts.{halted_to, begun_of, act_out, act_mem, act_marks, half_act, low_byte, begun_out, begun_mem, begun_marks};
 ghost use Rattle.machine.specs.declared.Begun.{Begun};
@@ -142,20 +142,19 @@ fn half_step(
     mu: bool,
     v: u32,
     mv: bool,
-    tf: bool,
-    cy: bool,
+    f: Flags,
     c: Control,
     m: &mut [u8],
     mk: &mut [u8],
 ) -> Result<Done, Halt>
-    ensures value { result ≡ act_out (half_act hi lo (val u mu) (val v mv) (flags tf cy) c m.old (bits mk.old)) c }
-    ensures m_after { m.new ≡ act_mem (half_act hi lo (val u mu) (val v mv) (flags tf cy) c m.old (bits mk.old)) (val u mu) m.old }
-    ensures mk_after { bits mk.new ≡ act_marks (half_act hi lo (val u mu) (val v mv) (flags tf cy) c m.old (bits mk.old)) (val u mu) (bits mk.old) }
+    ensures value { result ≡ act_out (half_act hi lo (val u mu) (val v mv) f c m.old (bits mk.old)) c }
+    ensures m_after { m.new ≡ act_mem (half_act hi lo (val u mu) (val v mv) f c m.old (bits mk.old)) (val u mu) m.old }
+    ensures mk_after { bits mk.new ≡ act_marks (half_act hi lo (val u mu) (val v mv) f c m.old (bits mk.old)) (val u mu) (bits mk.old) }
 {
     let kind = isa::kind_of(hi);
     let half = hi as u16 * 256 + lo as u16;
     let i = instruction::fetch::rest_at(kind, half, ByteAddr(c.pc), m, mk)?;
-    let a = instruction::classes::act_on(i, u, mu, v, mv, tf, cy, c, m, mk);
+    let a = instruction::classes::act_on(i, u, mu, v, mv, f, c, m, mk);
     act_step(a, u, mu, c, m, mk)
 }
 
@@ -177,25 +176,24 @@ pub fn make_step(
     mu: bool,
     v: u32,
     mv: bool,
-    tf: bool,
-    cy: bool,
+    f: Flags,
     c: Control,
     m: &mut [u8],
     mk: &mut [u8],
 ) -> Result<Done, Halt>
-    ensures value { result ≡ begun_out g (val u mu) (val v mv) (flags tf cy) c m.old (bits mk.old) }
-    ensures m_after { m.new ≡ begun_mem g (val u mu) (val v mv) (flags tf cy) c m.old (bits mk.old) }
-    ensures mk_after { bits mk.new ≡ begun_marks g (val u mu) (val v mv) (flags tf cy) c m.old (bits mk.old) }
+    ensures value { result ≡ begun_out g (val u mu) (val v mv) f c m.old (bits mk.old) }
+    ensures m_after { m.new ≡ begun_mem g (val u mu) (val v mv) f c m.old (bits mk.old) }
+    ensures mk_after { bits mk.new ≡ begun_marks g (val u mu) (val v mv) f c m.old (bits mk.old) }
 {
     match g {
         Begun::Halted(h) => Err(h),
         Begun::Enter(control) => Ok(Done {
             control,
-            flags: Flags { tf, cy },
+            flags: f,
             reg: cpu::NO_REG,
             value: 0,
             mark: false,
         }),
-        Begun::Half(hi, lo) => half_step(hi, lo, u, mu, v, mv, tf, cy, c, m, mk),
+        Begun::Half(hi, lo) => half_step(hi, lo, u, mu, v, mv, f, c, m, mk),
     }
 }

@@ -119,12 +119,12 @@ judge_same b t {k = k} s mem =
     (form_same s.control)
 
 -- what is not refused: each byte has a mark
-measured : (u w : Bool) (r q : Reply) (x : Result Unit Reply) → cond u (Err r) (cond w (Err q) x) ≡ (Ok tt) → w ≡ false
+measured : (u w : Bool) (r q : Reply) (x : Result Unit Reply) → cond u (Err r) (cond w (Err q) x) ≡ Ok tt → w ≡ false
 measured true w r q x e = let z : ◌≡◌ {A = ℕ} 0 1 = cc in absurd (omega arith)
 measured false true r q x e = let z : ◌≡◌ {A = ℕ} 0 1 = cc in absurd (omega arith)
 measured false false r q x e = refl
 
-judged_each : (b : ℕ) (t : List ℕ) (a : State) (m : List ℕ) (k : Marks) → judge b t a m k ≡ (Ok tt) → Covers k m
+judged_each : (b : ℕ) (t : List ℕ) (a : State) (m : List ℕ) (k : Marks) → judge b t a m k ≡ Ok tt → Covers k m
 unfolding judge
 judged_each b t a m k e = room_has (length m) k (measured (bad_length (length m)) (bad_room (length m) k) Reply.MemoryLength Reply.MarkLength _ e)
 

@@ -51,7 +51,7 @@ counts zero n t s m k = used_up refl (omega arith)
 counts (suc b) n t s m k = counts_on b n t s m k (step_of (get_or t n 0) s m k) refl (λ u l j. counts b (n + 1) t u l j)
 
 module _ (b : ℕ) (t : List ℕ) (s : State) (m : List ℕ) (k : Marks) where
-  pub run_counts : judge b t s m k ≡ (Ok tt) → Counts b t (run_of b t s m k)
+  pub run_counts : judge b t s m k ≡ Ok tt → Counts b t (run_of b t s m k)
   unfolding run_of
   run_counts e = let q : 0 + b ≡ b = omega arith in rw e (rw q at (counts b 0 t s m k))
 

@@ -78,7 +78,7 @@ lowest_refusal = lowest
 
 -- 6. A run that is not refused uses its budget up, with 10, or ends before the first step that stops; the result repeats the cycle count.
 module _ (b : ℕ) (t : List ℕ) (s : State) (m : List ℕ) (k : Marks) where
-  pub a_run_counts : judge b t s m k ≡ (Ok tt) → Counts b t (run_of b t s m k)
+  pub a_run_counts : judge b t s m k ≡ Ok tt → Counts b t (run_of b t s m k)
   a_run_counts = run_counts b t s m k
 
   pub a_run_repeats_cycles : (run_of b t s m k).ended.cycles ≡ (run_of b t s m k).ended.state.control.cycles

@@ -81,7 +81,7 @@ fn show_instr(i: Instr, s: State, m: &[u8], mk: &[u8]) -> Option<Line>
     let mu = get(s.marks, o.first, false);
     let v = get(s.regs, o.second, 0);
     let mv = get(s.marks, o.second, false);
-    let a = instruction::classes::act_on(i, u, mu, v, mv, s.flags.tf, s.flags.cy, c, m, mk);
+    let a = instruction::classes::act_on(i, u, mu, v, mv, s.flags, c, m, mk);
     show_act(a, address_of(i, v, c), c)
 }
 

@@ -124,17 +124,17 @@ pub record Fine (t : Labels) (s : List ℕ) (a : ByteAddr) (y : Result Unit Refu
   pub value : ℤ
   pub read : ℕ
   pub valued : line_value t (shape_of w) (body_of l) ≡ Ok (Value.Is value, read)
-  pub label : label_check s (label_in l) ≡ (Ok tt)
-  pub fits : fit_check (line_bits w a (body_of l) value) ≡ (Ok tt)
-  pub room : y ≡ (Ok tt)
+  pub label : label_check s (label_in l) ≡ Ok tt
+  pub fits : fit_check (line_bits w a (body_of l) value) ≡ Ok tt
+  pub room : y ≡ Ok tt
 
-fine_both : (x y : Result Unit Refusal) → before x y ≡ (Ok tt) → (x ≡ (Ok tt)) × (y ≡ (Ok tt))
+fine_both : (x y : Result Unit Refusal) → before x y ≡ Ok tt → (x ≡ Ok tt) × (y ≡ Ok tt)
 fine_both (Ok _) y e = (refl, e)
 fine_both (Err r) y e = let z : ◌≡◌ {A = ℕ} 0 1 = cc in absurd (omega arith)
 
 module _ (t : Labels) (s : List ℕ) (a : ByteAddr) (y : Result Unit Refusal) (w : What) (l : List ℕ) where
   by_value : is_known_as w l ≡ true → (v : Valued) → line_value t (shape_of w) (body_of l) ≡ v
-      → value_check w a (body_of l) (label_check s (label_in l)) y v ≡ (Ok tt) → Fine t s a y w l
+      → value_check w a (body_of l) (label_check s (label_in l)) y v ≡ Ok tt → Fine t s a y w l
   unfolding value_check
   by_value k (Err e) p q = let z : ◌≡◌ {A = ℕ} 0 1 = cc in absurd (omega arith)
   by_value k (Ok (Value.Unknown, n)) p q = let z : ◌≡◌ {A = ℕ} 0 1 = cc in absurd (omega arith)
@@ -146,20 +146,20 @@ module _ (t : Labels) (s : List ℕ) (a : ByteAddr) (y : Result Unit Refusal) (w
       let c = fine_both (fit_check (line_bits w a (body_of l) z)) y b.1 in
       record { known = k; value = z; read = n; valued = p; label = b.0; fits = c.0; room = c.1 }
 
-  pub fine : line_check t s a y w l ≡ (Ok tt) → Fine t s a y w l
+  pub fine : line_check t s a y w l ≡ Ok tt → Fine t s a y w l
   unfolding line_check
   fine e = go (is_known_as w l) refl e
     where
       v : Valued
       v = line_value t (shape_of w) (body_of l)
 
-      go : (u : Bool) → is_known_as w l ≡ u → cond u (value_check w a (body_of l) (label_check s (label_in l)) y v) (Err Refusal.Form) ≡ (Ok tt) → Fine t s a y w l
+      go : (u : Bool) → is_known_as w l ≡ u → cond u (value_check w a (body_of l) (label_check s (label_in l)) y v) (Err Refusal.Form) ≡ Ok tt → Fine t s a y w l
       go true k q = by_value k v refl q
       go false k q = let z : ◌≡◌ {A = ℕ} 0 1 = cc in absurd (omega arith)
 
 -- ---- its size
 
-sized_bytes : (x : Option Encoded) (n : ℕ) → fit_check x ≡ (Ok tt) → Sized n x → length (bytes_in x) ≡ n
+sized_bytes : (x : Option Encoded) (n : ℕ) → fit_check x ≡ Ok tt → Sized n x → length (bytes_in x) ≡ n
 unfolding Sized bytes_in
 sized_bytes (Some (Encoded.Half h)) n f q = q
 sized_bytes (Some (Encoded.Pair h y)) n f q = q.0
@@ -171,17 +171,17 @@ bits_at_lem (What.Code k) a b z = bits_sized k a _ _ _ _
 bits_at_lem What.Half a b z = only_sized (ltb (bits_of z) 65536) 2 _ (two (bits_of z))
 bits_at_lem What.Word a b z = four (bits_of z / 65536) (bits_of z)
 
-pub bits_size : (w : What) (a : ByteAddr) (b : List ℕ) (z : ℤ) → fit_check (line_bits w a b z) ≡ (Ok tt) → length (bytes_in (line_bits w a b z)) ≡ (shape_of w).size
+pub bits_size : (w : What) (a : ByteAddr) (b : List ℕ) (z : ℤ) → fit_check (line_bits w a b z) ≡ Ok tt → length (bytes_in (line_bits w a b z)) ≡ (shape_of w).size
 bits_size w a b z f = sized_bytes _ _ f (bits_at_lem w a b z)
 
 module _ (t : Labels) (s : List ℕ) (a : ByteAddr) (y : Result Unit Refusal) (w : What) (l : List ℕ) where
-  pub line_size_lem : line_check t s a y w l ≡ (Ok tt) → length (line_bytes t a w l) ≡ (shape_of w).size
+  pub line_size_lem : line_check t s a y w l ≡ Ok tt → length (line_bytes t a w l) ≡ (shape_of w).size
   unfolding line_bytes value_in
   line_size_lem e = let f = fine t s a y w l e in rw f.valued (bits_size w a (body_of l) f.value f.fits)
 
 -- ---- what it shows
 
-has_bits_lem : (x : Option Encoded) → fit_check x ≡ (Ok tt) → has_bits x ≡ true
+has_bits_lem : (x : Option Encoded) → fit_check x ≡ Ok tt → has_bits x ≡ true
 has_bits_lem (Some (Encoded.Half h)) f = refl
 has_bits_lem (Some (Encoded.Pair h s)) f = refl
 has_bits_lem None f = let z : ◌≡◌ {A = ℕ} 0 1 = cc in absurd (omega arith)
@@ -195,14 +195,14 @@ word_bytes v =
     rw (p, q, r)
 
 module _ (t : Labels) (a : ByteAddr) (ha : a.0 < 4294967296) (b : List ℕ) (z : ℤ) (n : ℕ) where
-  instr_shows : (i : Instr) (m : ℕ) (x : Option Encoded) → what_of b ≡ What.Code (kind_by i) → RowWrites t (row_of a i) b → DecodesTo x i → Sized m x → fit_check x ≡ (Ok tt)
+  instr_shows : (i : Instr) (m : ℕ) (x : Option Encoded) → what_of b ≡ What.Code (kind_by i) → RowWrites t (row_of a i) b → DecodesTo x i → Sized m x → fit_check x ≡ Ok tt
       → Shows t a b (bytes_in x)
   unfolding bytes_in Sized
   instr_shows i m (Some (Encoded.Half h)) w r d q f = short h i refl d (instr_name h 0 i (inl (d 0)) b w, r)
   instr_shows i m (Some (Encoded.Pair h s)) w r d q f = long h s i refl q.1 d (instr_name h s i (inr d) b w, r)
   instr_shows i m None w r d q f = let z : ◌≡◌ {A = ℕ} 0 1 = cc in absurd (omega arith)
 
-  said_shows : (k : Kind) (m : ℕ) (d : Option Decoded) → what_of b ≡ What.Code k → RowOf t b z n a ha k d → Sized m (bits_said d) → fit_check (bits_said d) ≡ (Ok tt)
+  said_shows : (k : Kind) (m : ℕ) (d : Option Decoded) → what_of b ≡ What.Code k → RowOf t b z n a ha k d → Sized m (bits_said d) → fit_check (bits_said d) ≡ Ok tt
       → Shows t a b (bytes_in (bits_said d))
   unfolding bits_said
   said_shows k m (Some (Decoded.Short i)) w r q f = instr_shows i m (encode_of i) (w ∙ ap What.Code (sym r.0)) r.1 (bits_decode i) q f
@@ -210,13 +210,13 @@ module _ (t : Labels) (a : ByteAddr) (ha : a.0 < 4294967296) (b : List ℕ) (z :
   said_shows k m None w r q f = let z : ◌≡◌ {A = ℕ} 0 1 = cc in absurd (omega arith)
 
   half_shows : (u : Bool) → ltb (bits_of z) 65536 ≡ u → ascii "half" ≡ field_at 1 b → RowWrites t (Row.One (Operand.Number (bits_of z))) b
-      → fit_check (only u (Some (Encoded.Half (bits_of z)))) ≡ (Ok tt) → Shows t a b (bytes_in (only u (Some (Encoded.Half (bits_of z)))))
+      → fit_check (only u (Some (Encoded.Half (bits_of z)))) ≡ Ok tt → Shows t a b (bytes_in (only u (Some (Encoded.Half (bits_of z)))))
   unfolding bytes_in
   half_shows true e w r f = half (bits_of z) refl (ltb-true _ _ e) w r
   half_shows false e w r f = let z : ◌≡◌ {A = ℕ} 0 1 = cc in absurd (omega arith)
 
   bits_show : (w : What) → what_of b ≡ w → fits_shape (shape_of w) b ≡ true → line_value t (shape_of w) b ≡ Ok (Value.Is z, n)
-      → fit_check (line_bits w a b z) ≡ (Ok tt) → Shows t a b (bytes_in (line_bits w a b z))
+      → fit_check (line_bits w a b z) ≡ Ok tt → Shows t a b (bytes_in (line_bits w a b z))
   unfolding line_bits bits_at shape_of line_value sum_at
   bits_show (What.Code k) e s v f =
       said_shows k (kind_shape k).size (said_by k a b z) e (row_said t b z n a ha k s v (has_bits_lem (bits_said (said_by k a b z)) f)) (bits_sized k a _ _ _ _) f
@@ -258,7 +258,7 @@ known_fits : (w : What) (l : List ℕ) → is_known_as w l ≡ true → fits_sha
 unfolding is_known_as is_known_body
 known_fits w l e = and_right (is_label (field_at 0 (body_of l))) _ (and_right (is_ended l) _ e)
 
-pub line_shown : (t : Labels) (s : List ℕ) (a : ByteAddr) (y : Result Unit Refusal) (l : List ℕ) → a.0 < 4294967296 → line_check t s a y (what_in l) l ≡ (Ok tt)
+pub line_shown : (t : Labels) (s : List ℕ) (a : ByteAddr) (y : Result Unit Refusal) (l : List ℕ) → a.0 < 4294967296 → line_check t s a y (what_in l) l ≡ Ok tt
     → Shows t a (body_of l) (line_bytes t a (what_in l) l)
 unfolding line_bytes value_in
 line_shown t s a y l ha e =

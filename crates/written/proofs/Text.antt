@@ -45,21 +45,21 @@ some_name zero = refl
 some_name (suc n) = rw (lt-ltb 0 (suc n) (omega arith), ne_eqb (suc n) 0 (λ q. omega arith))
 
 -- after a line that is fine its label is set, if it has one
-names_on : (s : List ℕ) (l : List ℕ) → label_check s (label_in l) ≡ (Ok tt) → with_name s (label_in l) ≡ s ++ own_labels l
+names_on : (s : List ℕ) (l : List ℕ) → label_check s (label_in l) ≡ Ok tt → with_name s (label_in l) ≡ s ++ own_labels l
 unfolding label_check with_name
 names_on s l e = rw (some_name (own_label l)) (go (eqb (own_label l) 0) (is_set s (own_label l)) (has_room s) e)
   where
     k : ℕ
     k = own_label l
 
-    go : (u v w : Bool) → cond u (Ok tt) (before (refused_if v Refusal.Twice) (refused_if (not w) Refusal.Many)) ≡ (Ok tt)
+    go : (u v w : Bool) → cond u (Ok tt) (before (refused_if v Refusal.Twice) (refused_if (not w) Refusal.Many)) ≡ Ok tt
         → cond (not u && not v && w) (s ++ (k ∷ [])) s ≡ s ++ cond (not u) (k ∷ []) []
     go true v w q = sym (append-nil s)
     go false true w q = let z : ◌≡◌ {A = ℕ} 0 1 = cc in absurd (omega arith)
     go false false true q = refl
     go false false false q = let z : ◌≡◌ {A = ℕ} 0 1 = cc in absurd (omega arith)
 
-module _ (t : Labels) (s : List ℕ) (p n : ℕ) (l : List ℕ) (e : check_at t s p n l ≡ (Ok tt)) where
+module _ (t : Labels) (s : List ℕ) (p n : ℕ) (l : List ℕ) (e : check_at t s p n l ≡ Ok tt) where
   -- what is known of a line that is fine at its place
   here : Fine t s (address_of p) (room_check p (shape_of (what_in l)).size n) (what_in l) l
   here = fine t s (address_of p) (room_check p (shape_of (what_in l)).size n) (what_in l) l e
@@ -67,7 +67,7 @@ module _ (t : Labels) (s : List ℕ) (p n : ℕ) (l : List ℕ) (e : check_at t 
   names_after : with_name s (label_in l) ≡ s ++ own_labels l
   names_after = names_on s l here.label
 
-done_fine : (c : Result Unit Refusal) (j i e : ℕ) (rest : Assembled) → go_on c j rest ≡ Ok (i, e) → (c ≡ (Ok tt)) × (rest ≡ Ok (i, e))
+done_fine : (c : Result Unit Refusal) (j i e : ℕ) (rest : Assembled) → go_on c j rest ≡ Ok (i, e) → (c ≡ Ok tt) × (rest ≡ Ok (i, e))
 done_fine (Ok _) j i e rest q = (refl, q)
 done_fine (Err r) j i e rest q = let z : ◌≡◌ {A = ℕ} 0 1 = cc in absurd (omega arith)
 
@@ -78,11 +78,11 @@ all_fine t s p n j i e (l ∷ r) q =
     let d = done_fine (check_at t s p n l) (suc j) i e _ q in
     (d.0, all_fine t (s ++ own_labels l) (p + (shape_of (what_in l)).size) n (suc j) i e r (rw (names_after t s p n l d.0) at d.1))
 
-room_for : (p n m : ℕ) → room_check p n m ≡ (Ok tt) → p + n ≤ m
+room_for : (p n m : ℕ) → room_check p n m ≡ Ok tt → p + n ≤ m
 unfolding room_check
 room_for p n m e = go (ltb m (p + n)) refl e
   where
-    go : (u : Bool) → ltb m (p + n) ≡ u → refused_if u Refusal.Room ≡ (Ok tt) → p + n ≤ m
+    go : (u : Bool) → ltb m (p + n) ≡ u → refused_if u Refusal.Room ≡ Ok tt → p + n ≤ m
     go true f q = let z : ◌≡◌ {A = ℕ} 0 1 = cc in absurd (omega arith)
     go false f q = ltb-false m (p + n) f
 
@@ -90,7 +90,7 @@ code_none : (t : Labels) (a : ByteAddr) → length (code_of t a []) ≡ 0
 unfolding code_of
 code_none t a = refl
 
-code_step : (t : Labels) (s : List ℕ) (p n : ℕ) (l : List ℕ) (r : List (List ℕ)) → check_at t s p n l ≡ (Ok tt)
+code_step : (t : Labels) (s : List ℕ) (p n : ℕ) (l : List ℕ) (r : List (List ℕ)) → check_at t s p n l ≡ Ok tt
     → length (code_of t (address_of p) (l ∷ r)) ≡ (shape_of (what_in l)).size + length (code_of t (address_of (p + (shape_of (what_in l)).size)) r)
 unfolding code_of
 code_step t s p n l r e = rw (length-append, line_size_lem t s (address_of p) (room_check p (shape_of (what_in l)).size n) (what_in l) l e, address_on)

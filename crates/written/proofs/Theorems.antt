@@ -29,7 +29,7 @@ use Rattle.written.proofs.Labels.{set_keys, set_means, unset_unknown}
 
 -- 1. The bytes of a line that is not refused, at its address, show what it writes: they decode to an instruction with its mnemonic, its registers and
 -- its values, or are its value, big-endian, for `half` and `word` ..
-module _ (t : Labels) (s : List ℕ) (p n : ℕ) (l : List ℕ) (ok : check_at t s p n l ≡ (Ok tt)) where
+module _ (t : Labels) (s : List ℕ) (p n : ℕ) (l : List ℕ) (ok : check_at t s p n l ≡ Ok tt) where
   known : is_known l ≡ true
   known = (fine t s (address_of p) (room_check p (shape_of (what_in l)).size n) (what_in l) l ok).known
 

@@ -89,14 +89,14 @@ Lowest f (Err r) = (f r ≡ true) × ((q : Refusal) → number_of q < number_of 
 -- all are fine
 abbrev pub AllFine : Labels → List ℕ → ℕ → ℕ → List (List ℕ) → Type 0
 AllFine t s p n [] = Unit {0}
-AllFine t s p n (l ∷ r) = (check_at t s p n l ≡ (Ok tt)) × AllFine t (s ++ own_labels l) (p + (shape_of (what_in l)).size) n r
+AllFine t s p n (l ∷ r) = (check_at t s p n l ≡ Ok tt) × AllFine t (s ++ own_labels l) (p + (shape_of (what_in l)).size) n r
 
 -- the first k are fine, and the next is refused
 abbrev pub FineThenNot : Labels → List ℕ → ℕ → ℕ → ℕ → Refusal → List (List ℕ) → Type 0
 FineThenNot t s p n k q [] = ⊥
 FineThenNot t s p n zero q (l ∷ r) = check_at t s p n l ≡ Err q
 FineThenNot t s p n (suc k) q (l ∷ r) =
-    (check_at t s p n l ≡ (Ok tt)) × FineThenNot t (s ++ own_labels l) (p + (shape_of (what_in l)).size) n k q r
+    (check_at t s p n l ≡ Ok tt) × FineThenNot t (s ++ own_labels l) (p + (shape_of (what_in l)).size) n k q r
 
 -- why line i of a text that starts at s is refused with q: "29 start odd or past the image (line 0)", or it is the first line that is not fine
 pub data Told (t : Labels) (s n : ℕ) (q : Refusal) (i : ℕ) (ls : List (List ℕ)) : Type 0 where
