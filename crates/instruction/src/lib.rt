@@ -27,6 +27,13 @@ pub enum Reply {
     MarkedOperand = 14,
 }
 
+// A register's value and mark.
+#[derive(Clone, Copy)]
+pub struct Val {
+    pub value: u32,
+    pub mark: bool,
+}
+
 // Why an instruction is not done, in the order of the tests. An access outside memory is a bus error; the others stop the run.
 #[derive(Clone, Copy, Debug, PartialEq, Eq)]
 pub enum Halt {

@@ -8,7 +8,7 @@ use crate::registers::put;
 use crate::step::{begin, halt, low_byte, make_step};
 use crate::{Ended, State};
 use cpu::Control;
-use instruction::Reply;
+use instruction::{Reply, Val};
 
 fn end_at(state: State, steps: usize, reply: Reply) -> Ended
     ensures { result ≡ record { state = state; steps = steps; reply = reply; cycles = state.control.cycles } }
@@ -38,9 +38,15 @@ fn steps(b: usize, t: &[u8], s: State, m: &mut [u8], k: &mut [u8]) -> Ended
         let lo = low_byte(g);
         let i = (lo / 16) as usize;
         let j = (lo % 16) as usize;
-        let out = make_step(
-            g, regs[i], marks[i], regs[j], marks[j], flags, control, m, k,
-        );
+        let x = Val {
+            value: regs[i],
+            mark: marks[i],
+        };
+        let y = Val {
+            value: regs[j],
+            mark: marks[j],
+        };
+        let out = make_step(g, x, y, flags, control, m, k);
         match out {
             Err(h) => match halt(h, control) {
                 Err(reply) => {
