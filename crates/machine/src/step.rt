@@ -84,7 +84,7 @@ fn cost_by(r: Reach, c: Control) -> u8
     }
 }
 
-// The flags go over one by one: as a struct they are packed and unpacked, and the images of bench/ take 92 to 117 instructions a step, in place of 84 to 106.
+// The flags go over one by one: `flags: t.flags` costs 9 instructions a step more.
 fn finish(c: Control, e: Effect, t: Taint, r: Reach) -> Done
     ensures { result ≡ done_of c e t r }
 {
