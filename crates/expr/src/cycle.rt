@@ -1,11 +1,19 @@
 // Sum, product and operand: a cycle of calls that ends since a parenthesis takes one off the allowance.
 ghost use Rattle.std.specs.Prelude.{◌≡◌, ◌+◌, ◌≤◌, ◌<◌, ◌^◌, length};
-ghost use Rattle.expr.specs.Expr.{labels_in, size_of, joined_of, adds, sign_of, signed_of, closed_of, operand_of, product_of, sum_of, value_of};
+ghost use Rattle.expr.specs.Expr.{labels_in, size_of, joined_of, adds, sign_of, signed_of, closed_of, items_of, operand_of, value_of};
+ghost use Rattle.expr.specs.Parts.{joins_in, item_in};
 
 use crate::labels::byte;
 use crate::leaves::leaf;
 use crate::values::combine;
 use crate::{Entry, Fault, Read, Value};
+
+// A sum's items are products, a product's are operands.
+#[derive(Clone, Copy)]
+enum Level {
+    Sum,
+    Product,
+}
 
 fn joined(c: u8, v: Value, next: Read) -> Read
     ensures { (result ≡ joined_of c v next) × (size_of result ≤ size_of next) }
@@ -50,7 +58,7 @@ fn closed(s: &[u8], inner: Read) -> Read
     Err(Fault::Form)
 }
 
-#[cycle(operand_product_sum)]
+#[cycle(operand_items)]
 fn operand(s: &[u8], labels: &[Entry], more: u32) -> Read
     ensures { (result ≡ operand_of (labels_in labels.now) more s.now) × (size_of result ≤ length s.now) }
 {
@@ -60,7 +68,7 @@ fn operand(s: &[u8], labels: &[Entry], more: u32) -> Read
             return Err(Fault::Deep);
         }
         let from = k + 1;
-        let inner = sum(&s[from..], labels, more - 1);
+        let inner = items(Level::Sum, &s[from..], labels, more - 1);
         let whole = closed(&s[from..], inner);
         return signed(k, whole);
     }
@@ -68,29 +76,35 @@ fn operand(s: &[u8], labels: &[Entry], more: u32) -> Read
     signed(k, plain)
 }
 
-#[cycle(operand_product_sum)]
-fn product(s: &[u8], labels: &[Entry], more: u32) -> Read
-    ensures { (result ≡ product_of (labels_in labels.now) more s.now) × (size_of result ≤ length s.now) }
+// The byte that joins two items.
+fn joins(level: Level, c: u8) -> bool
+    ensures { result ≡ joins_in level c }
 {
-    let (mut v, mut at) = operand(s, labels, more)?;
-    while byte(s, at) == 42 {
-        let from = at + 1;
-        let next = operand(&s[from..], labels, more);
-        let (x, m) = joined(42, v, next)?;
-        v = x;
-        at = from + m;
+    match level {
+        Level::Sum => is_adding(c),
+        Level::Product => c == 42,
     }
-    Ok((v, at))
 }
 
-#[cycle(operand_product_sum)]
-fn sum(s: &[u8], labels: &[Entry], more: u32) -> Read
-    ensures { (result ≡ sum_of (labels_in labels.now) more s.now) × (size_of result ≤ length s.now) }
+#[cycle(operand_items)]
+fn item(level: Level, s: &[u8], labels: &[Entry], more: u32) -> Read
+    ensures { (result ≡ item_in level (labels_in labels.now) more s.now) × (size_of result ≤ length s.now) }
 {
-    let (mut v, mut at) = product(s, labels, more)?;
-    while is_adding(byte(s, at)) {
+    match level {
+        Level::Sum => items(Level::Product, s, labels, more),
+        Level::Product => operand(s, labels, more),
+    }
+}
+
+// A sum or a product. Its items are of any length, so no `for` counts them.
+#[cycle(operand_items)]
+fn items(level: Level, s: &[u8], labels: &[Entry], more: u32) -> Read
+    ensures { (result ≡ items_of (joins_in level) (item_in level (labels_in labels.now) more) s.now) × (size_of result ≤ length s.now) }
+{
+    let (mut v, mut at) = item(level, s, labels, more)?;
+    while joins(level, byte(s, at)) {
         let from = at + 1;
-        let next = product(&s[from..], labels, more);
+        let next = item(level, &s[from..], labels, more);
         let (x, m) = joined(s[at], v, next)?;
         v = x;
         at = from + m;
@@ -102,5 +116,5 @@ fn sum(s: &[u8], labels: &[Entry], more: u32) -> Read
 pub fn evaluate(s: &[u8], labels: &[Entry]) -> Read
     ensures { result ≡ value_of (labels_in labels.now) s.now }
 {
-    sum(s, labels, 8)
+    items(Level::Sum, s, labels, 8)
 }
