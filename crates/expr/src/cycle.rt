@@ -1,6 +1,6 @@
 // Sum, product and operand: a cycle of calls that ends since a parenthesis takes one off the allowance.
 ghost use Rattle.std.specs.Prelude.{◌≡◌, ◌+◌, ◌≤◌, ◌<◌, ◌^◌, length};
-ghost use Rattle.expr.specs.Expr.{labels_in, size_of, joined_of, adds, sign_of, signed_of, closed_of, items_of, operand_of, value_of};
+ghost use Rattle.expr.specs.Expr.{labels_in, size_of, joined_of, adds, sign_of, signed_of, closed_of, items_of, operand_of, product_of, sum_of, value_of};
 ghost use Rattle.expr.specs.Parts.{joins_in, item_in};
 
 use crate::labels::byte;
@@ -58,7 +58,7 @@ fn closed(s: &[u8], inner: Read) -> Read
     Err(Fault::Form)
 }
 
-#[cycle(operand_items)]
+#[cycle(operand_product_sum)]
 fn operand(s: &[u8], labels: &[Entry], more: u32) -> Read
     ensures { (result ≡ operand_of (labels_in labels.now) more s.now) × (size_of result ≤ length s.now) }
 {
@@ -68,7 +68,7 @@ fn operand(s: &[u8], labels: &[Entry], more: u32) -> Read
             return Err(Fault::Deep);
         }
         let from = k + 1;
-        let inner = items(Level::Sum, &s[from..], labels, more - 1);
+        let inner = sum(&s[from..], labels, more - 1);
         let whole = closed(&s[from..], inner);
         return signed(k, whole);
     }
@@ -86,18 +86,18 @@ fn joins(level: Level, c: u8) -> bool
     }
 }
 
-#[cycle(operand_items)]
+#[cycle(operand_product_sum)]
 fn item(level: Level, s: &[u8], labels: &[Entry], more: u32) -> Read
     ensures { (result ≡ item_in level (labels_in labels.now) more s.now) × (size_of result ≤ length s.now) }
 {
     match level {
-        Level::Sum => items(Level::Product, s, labels, more),
+        Level::Sum => product(s, labels, more),
         Level::Product => operand(s, labels, more),
     }
 }
 
-// A sum or a product. Its items are of any length, so no `for` counts them.
-#[cycle(operand_items)]
+// A sum or a product. No `for` fits: each turn moves by as many bytes as an item took.
+#[cycle(operand_product_sum)]
 fn items(level: Level, s: &[u8], labels: &[Entry], more: u32) -> Read
     ensures { (result ≡ items_of (joins_in level) (item_in level (labels_in labels.now) more) s.now) × (size_of result ≤ length s.now) }
 {
@@ -112,9 +112,23 @@ fn items(level: Level, s: &[u8], labels: &[Entry], more: u32) -> Read
     Ok((v, at))
 }
 
+#[cycle(operand_product_sum)]
+fn product(s: &[u8], labels: &[Entry], more: u32) -> Read
+    ensures { (result ≡ product_of (labels_in labels.now) more s.now) × (size_of result ≤ length s.now) }
+{
+    items(Level::Product, s, labels, more)
+}
+
+#[cycle(operand_product_sum)]
+fn sum(s: &[u8], labels: &[Entry], more: u32) -> Read
+    ensures { (result ≡ sum_of (labels_in labels.now) more s.now) × (size_of result ≤ length s.now) }
+{
+    items(Level::Sum, s, labels, more)
+}
+
 // At most eight parentheses may be open.
 pub fn evaluate(s: &[u8], labels: &[Entry]) -> Read
     ensures { result ≡ value_of (labels_in labels.now) s.now }
 {
-    items(Level::Sum, s, labels, 8)
+    sum(s, labels, 8)
 }

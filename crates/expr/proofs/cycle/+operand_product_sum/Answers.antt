@@ -3,7 +3,7 @@ use Rattle.std.proofs.lemmas.Result.{err_from_is_err_and}
 use Rattle.expr.specs.Expr.{size_of}
 use Rattle.expr.proofs.Laws.{byte_within, items_got, items_not, chain_over, joins_there, joins_not, chain_turn, chain_fault, operand_none, operand_got, operand_plain}
 use Rattle.expr.proofs.Theorems.{sum_of_products, product_of_operands}
-use Rattle.expr.proofs.cycle.+operand_items.Goals as goal
+use Rattle.expr.proofs.cycle.+operand_product_sum.Goals as goal
 
 pub operand-returns-then-more-eq0 : goal.operand-returns-then-more-eq0
 unfolding size_of
@@ -11,13 +11,10 @@ operand-returns-then-more-eq0 t c = (sym (operand_none _ _ _ _ _ c.sign-k.ensure
 
 pub operand-returns-then-byte-eq40 : goal.operand-returns-then-byte-eq40
 operand-returns-then-byte-eq40 t c =
-    (operand_got _ _ _ _ _ c.sign-k.ensures.0 c.byte.ensures c.if-byte-eq40.true c.if-more-eq0.false _ _ _ (c.items-inner.ensures.0 ∙ sym (sum_of_products _ _ _)) c.closed-whole.ensures.0 c.signed.ensures.0, (let h = byte_within c.args.s.now _ _ c.byte.ensures (λ z. omega (arith, c.if-byte-eq40.true)) in omega arith))
+    (operand_got _ _ _ _ _ c.sign-k.ensures.0 c.byte.ensures c.if-byte-eq40.true c.if-more-eq0.false _ _ _ c.sum-inner.ensures.0 c.closed-whole.ensures.0 c.signed.ensures.0, (let h = byte_within c.args.s.now _ _ c.byte.ensures (λ z. omega (arith, c.if-byte-eq40.true)) in omega arith))
 
 pub operand-returns : goal.operand-returns
 operand-returns t c = (operand_plain _ _ _ _ _ c.sign-k.ensures.0 c.byte.ensures c.if-byte-eq40.false _ _ c.leaf-plain.ensures.0 c.signed-2.ensures.0, omega arith)
-
-pub item-returns-in-Sum : goal.item-returns-in-Sum
-item-returns-in-Sum t c = rw c.in-Sum.is (c.items.ensures.0 ∙ sym (product_of_operands _ _ _), c.items.ensures.1)
 
 pub items-returns-in_err-v : goal.items-returns-in_err-v
 unfolding size_of
@@ -49,3 +46,9 @@ items-loop-level-preserved t c =
 pub items-returns : goal.items-returns
 unfolding size_of
 items-returns t c = (sym (c.loop-level.invariant.1 ∙ chain_over _ _ c.args.s.now c.loop-level.at _ _ (joins_not _ c.args.s.now c.loop-level.at _ _ c.byte.ensures c.joins.ensures c.loop-level-test.false)), omega arith)
+
+pub product-returns : goal.product-returns
+product-returns t c = (c.items.ensures.0 ∙ sym (product_of_operands _ _ _), c.items.ensures.1)
+
+pub sum-returns : goal.sum-returns
+sum-returns t c = (c.items.ensures.0 ∙ sym (sum_of_products _ _ _), c.items.ensures.1)
