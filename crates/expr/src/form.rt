@@ -103,6 +103,7 @@ pub fn is_sum(s: &[u8]) -> bool
         depth: 0,
         at: 0,
     };
+    // No `for` fits: a step moves by one byte, or by as many as a number or a label has.
     while turn.at < s.len() {
         let Some(next) = step(s, turn) else {
             return false;

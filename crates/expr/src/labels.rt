@@ -74,7 +74,7 @@ pub fn lead(s: &[u8]) -> Option<(u64, usize)>
     Some((v, s.len()))
 }
 
-// A name's number, 0 for what is no name.
+// A name's number, 0 for what is no name. No Option: `named` of forms/specs/Form.antt is that 0, and the table of slots in forms is searched for the number as it is.
 pub fn label(s: &[u8]) -> u64
     ensures { result ≡ cond (is_name s.now) (key_of s.now) 0 }
 {
