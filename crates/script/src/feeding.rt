@@ -55,12 +55,7 @@ fn keep_byte(r: Reader, b: u8, line: &mut [u8; 45]) -> Reader
 }
 
 #[tactic(auto, unfolding(crate::specs::Reader::byte_of))]
-fn take_byte(
-    r: Reader,
-    b: u8,
-    line: &mut [u8; 45],
-    memory: &mut Memory,
-) -> Reader
+fn take_byte(r: Reader, b: u8, line: &mut [u8; 45], memory: &mut Memory) -> Reader
     ensures { fed result line.new memory.new.bytes (bits memory.new.marks) ≡ byte_of b (fed r line.old memory.old.bytes (bits memory.old.marks)) }
 {
     if b == 10 {
@@ -90,12 +85,7 @@ pub fn start(memory: &mut Memory) -> Reader
 }
 
 // A part of the input. `line` is room for a line that the part's end cuts.
-pub fn feed(
-    r: Reader,
-    part: &[u8],
-    line: &mut [u8; 45],
-    memory: &mut Memory,
-) -> Reader
+pub fn feed(r: Reader, part: &[u8], line: &mut [u8; 45], memory: &mut Memory) -> Reader
     ensures { fed result line.new memory.new.bytes (bits memory.new.marks) ≡ feed_of part.now (fed r line.old memory.old.bytes (bits memory.old.marks)) }
 {
     let mut s = r;
