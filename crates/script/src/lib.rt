@@ -54,3 +54,10 @@ pub struct Reader {
     pub used: usize,
     pub fault: Option<Fault>,
 }
+
+// Memory's bytes, and their marks, a bit for each.
+#[derive(Drop)]
+pub struct Memory {
+    pub bytes: [u8; 16384],
+    pub marks: [u8; 2048],
+}
