@@ -25,7 +25,7 @@ pub struct State {
     pub control: Control,
 }
 
-// What a step does: an entry, or one instruction.
+// What a step does: an entry, or one instruction. As an Option of an entry it would not say that where there is none an instruction is made.
 #[derive(Clone, Copy)]
 pub enum Event {
     Enter(Entry),

@@ -36,7 +36,7 @@ fn found_at(reason: Reason, at: usize, l: &[u8]) -> Option<Fault>
 fn ends_word(c: u8) -> bool
     ensures { result ≡ ends_word c }
 {
-    c < b'a' || b'z' < c
+    !c.is_ascii_lowercase()
 }
 
 fn letters_in(most: usize, l: &[u8]) -> usize

@@ -10,7 +10,8 @@ pub use faults::why;
 pub use feeding::{feed, start};
 pub use rooms::zeros;
 
-// Where in an input the reader is: before `mem`, after it, after `run` (memory's size, and the budget), or past a bad line.
+// Where in an input the reader is: before `mem`, after it, after `run` (memory's size, and the budget), or past a bad line: a
+// phase like the others, in which the reader goes on, as `rest_not_read` (crate answer) has it.
 #[derive(Clone, Copy)]
 pub enum Phase {
     First,
@@ -38,7 +39,8 @@ pub enum Reason {
     Missing,
 }
 
-// A reason, the place in the line, from 1, and the byte there (10 at the line's end); no place and no byte, 0, where the input is at its end.
+// A reason, the place in the line, from 1, and the byte there (10 at the line's end); no place and no byte, 0, where the input is at its
+// end, as the definition `early` has it.
 #[derive(Clone, Copy)]
 pub struct Fault {
     pub reason: Reason,
