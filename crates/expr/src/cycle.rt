@@ -25,14 +25,14 @@ fn joined(c: u8, v: Value, next: Read) -> Read
 pub fn is_adding(c: u8) -> bool
     ensures { result ≡ adds c }
 {
-    c == 43 || c == 45
+    c == b'+' || c == b'-'
 }
 
 // How many bytes of a minus lead.
 fn sign(s: &[u8]) -> usize
     ensures { (result ≡ sign_of s.now) × (result ≤ 1) × (result ≤ length s.now) }
 {
-    if byte(s, 0) == 45 { 1 } else { 0 }
+    if byte(s, 0) == b'-' { 1 } else { 0 }
 }
 
 // What stands after k bytes of a minus, with them.
@@ -44,7 +44,7 @@ fn signed(k: usize, next: Read) -> Read
     if k == 0 {
         return Ok((w, n));
     }
-    Ok((combine(45, Value::Is(0), w), n + 1))
+    Ok((combine(b'-', Value::Is(0), w), n + 1))
 }
 
 // What was read after a parenthesis, with the one that closes it.
@@ -52,7 +52,7 @@ fn closed(s: &[u8], inner: Read) -> Read
     ensures { (result ≡ closed_of s.now inner) × (size_of result ≤ length s.now + 1) }
 {
     let (v, n) = inner?;
-    if byte(s, n) == 41 {
+    if byte(s, n) == b')' {
         return Ok((v, n + 2));
     }
     Err(Fault::Form)
@@ -63,7 +63,7 @@ fn operand(s: &[u8], labels: &[Entry], more: u32) -> Read
     ensures { (result ≡ operand_of (labels_in labels.now) more s.now) × (size_of result ≤ length s.now) }
 {
     let k = sign(s);
-    if byte(s, k) == 40 {
+    if byte(s, k) == b'(' {
         if more == 0 {
             return Err(Fault::Deep);
         }
@@ -82,7 +82,7 @@ fn joins(level: Level, c: u8) -> bool
 {
     match level {
         Level::Sum => is_adding(c),
-        Level::Product => c == 42,
+        Level::Product => c == b'*',
     }
 }
 

@@ -4,6 +4,7 @@ ghost use Rattle.expr.specs.Value.{fitted, applied, combined, written};
 
 use crate::Value;
 
+// Beside `write`, and no generic one for both: `fitted` of specs/Value.antt speaks of ℤ, `written` of ℕ, and a trait that says so of both types is longer than they are.
 fn fit(v: i64) -> Value
     ensures { result ≡ fitted v }
 {
@@ -20,8 +21,8 @@ fn apply(c: u8, a: i32, b: i32) -> Value
 {
     let (x, y) = (a as i64, b as i64);
     match c {
-        42 => fit(x * y),
-        43 => fit(x + y),
+        b'*' => fit(x * y),
+        b'+' => fit(x + y),
         _ => fit(x - y),
     }
 }
