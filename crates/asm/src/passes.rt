@@ -112,7 +112,7 @@ impl Source<'_> {
         while at < self.text.len() {
             let line = Line::new(text::end_part(self.text, at));
             let w = line.what(self.table);
-            let n = bytes_for(true, w);
+            let n = shape_of(w).size;
             let room = room_check(to, n, end);
             let a = address_of(to);
             lines += 1;
@@ -137,7 +137,7 @@ impl Source<'_> {
             let line = Line::new(text::end_part(self.text, at));
             let w = line.what(self.table);
             to = put_bits(image, to, line.encoded(w, labels, a));
-            a = word::byte_sum(a, bytes_for(true, w));
+            a = word::byte_sum(a, shape_of(w).size);
             at += line.cut.end + 1;
         }
         to
