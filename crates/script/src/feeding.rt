@@ -58,7 +58,7 @@ fn keep_byte(r: Reader, b: u8, line: &mut [u8; 45]) -> Reader
 fn take_byte(r: Reader, b: u8, line: &mut [u8; 45], memory: &mut Memory) -> Reader
     ensures { fed result line.new memory.new.bytes (bits memory.new.marks) ≡ byte_of b (fed r line.old memory.old.bytes (bits memory.old.marks)) }
 {
-    if b == 10 {
+    if b == b'\n' {
         return end_line(r, line, memory);
     }
     let kept = keep_byte(r, b, line);
