@@ -6,7 +6,7 @@ ghost use Rattle.script.specs.Reader.{fed, start_of, kept_by, kept_in, reader_af
 
 use crate::faults::line_fault;
 use crate::lines::whole_line;
-use crate::rooms::{clear, unmark};
+use crate::rooms::zeros;
 use crate::{Memory, Phase, Reader};
 
 fn next_number(n: u64) -> u64
@@ -58,7 +58,7 @@ fn keep_byte(r: Reader, b: u8, line: &mut [u8; 45]) -> Reader
 fn take_byte(r: Reader, b: u8, line: &mut [u8; 45], memory: &mut Memory) -> Reader
     ensures { fed result line.new memory.new.bytes (bits memory.new.marks) ≡ byte_of b (fed r line.old memory.old.bytes (bits memory.old.marks)) }
 {
-    if b == 10 {
+    if b == b'\n' {
         return end_line(r, line, memory);
     }
     let kept = keep_byte(r, b, line);
@@ -69,13 +69,14 @@ fn take_byte(r: Reader, b: u8, line: &mut [u8; 45], memory: &mut Memory) -> Read
 }
 
 // Before the first byte: nothing is known, memory is zero, and none of it is marked.
+#[tactic(auto, unfolding(crate::specs::Line::unmarked))]
 pub fn start(memory: &mut Memory) -> Reader
     ensures value { result ≡ start_of }
     ensures bytes_after { memory.new.bytes ≡ blank }
     ensures marks_after { bits memory.new.marks ≡ unmarked }
 {
-    clear(&mut memory.bytes);
-    unmark(&mut memory.marks);
+    memory.bytes = zeros();
+    memory.marks = [0u8; 2048];
     Reader {
         phase: Phase::First,
         number: 1,

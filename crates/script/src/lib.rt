@@ -11,7 +11,7 @@ pub use feeding::{feed, start};
 pub use rooms::zeros;
 
 // Where in an input the reader is: before `mem`, after it, after `run` (memory's size, and the budget), or past a bad line: a
-// phase like the others, in which the reader goes on, as `rest_not_read` (crate answer) has it.
+// phase like the others, in which the reader goes on, as `rest_not_read` (crate answer) has it. It holds no fault: `line_of` answers `Phase.Bad` alone, and `fault_of` the fault.
 #[derive(Clone, Copy)]
 pub enum Phase {
     First,
@@ -49,6 +49,7 @@ pub struct Fault {
 }
 
 // The phase, the number of the unfinished line or of the bad one, how many bytes of the unfinished line are kept, and what is wrong with the bad one.
+// The line itself is lent beside the Reader: the definition `fed` has the two apart, and `feed_of`, which `feed` promises, takes them so.
 #[derive(Clone, Copy)]
 pub struct Reader {
     pub phase: Phase,

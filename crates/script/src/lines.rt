@@ -7,6 +7,7 @@ ghost use Rattle.script.specs.Line.{size_of, budget_of, is_even, are_bytes, pair
 use crate::{Memory, Phase};
 use word::ByteAddr;
 
+// Two, as the definitions `size_of` and `budget_of` are; each makes a phase of its own.
 fn size_in(r: Option<u32>) -> Phase
     ensures { result ≡ size_of r }
 {
@@ -49,6 +50,7 @@ fn put_byte(m: &mut [u8], at: usize, b: u8)
 fn put_bytes(a: u32, h: &[u8], m: &mut [u8])
     ensures { m.new ≡ sets m.old a (pairs_of h.now) }
 {
+    // By number: it tells the place in memory too, which would be counted beside a pattern of two.
     for i in 0..h.len() / 2 {
         put_byte(m, a as usize + i, text::pair(h[2 * i], h[2 * i + 1]));
     }
