@@ -21,6 +21,7 @@ pub use values::{
     alu, compare, compare_imm, conditional, conditional_imm, immediate, loaded, shift_imm, stored,
 };
 
+// Special function registers go by the guide's numbers, and bits of PSW and HWDBG by their places, as the definitions of specs/ write them (`with_sfr`, `entered`).
 #[derive(Clone, Copy)]
 pub struct Control {
     pub pc: u32,

@@ -34,6 +34,7 @@ pub enum AluOp {
 }
 
 // 0x0?: by an immediate.
+// Each format below has an enum of the operations that it has, so that no instruction can be made that has no bits.
 #[derive(Clone, Copy)]
 pub enum ShiftOp {
     Lsl = 0xc,

@@ -155,7 +155,7 @@ fn half_step(
     act_step(a, x, c, m, mk)
 }
 
-// The byte that names the registers that are read; any would do where no instruction is made.
+// The byte that names the registers that are read; where no instruction is made, 0, as the definition `low_byte` says.
 pub fn low_byte(g: Begun) -> u8
     ensures { result ≡ low_byte g }
 {
