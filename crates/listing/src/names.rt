@@ -4,14 +4,14 @@ ghost use Rattle.text.specs.Digits.{glyphs};
 ghost use Rattle.text.specs.Pages.{page, write_on};
 ghost use Rattle.listing.specs.Names.{names, place_of, name_at};
 
-// Six letters for each place.
+// Six letters for each place, and no &str for each: the definitions names and name_at say the letters so, and theorems find a name again by them.
 const NAMES: [u8; 492] =
     *b"                                                                        lsli  lsri  asri  multi swint       mfsfr mtsfr                                                 jr    jrl   jsfr        sub   add   subc  addc  mov   and   or    xor   sxb   xhw   sxh   zxh   lsl   lsr   asr   mult  cmpeqicmpeq cmphs cmpls cmplt cmpgt cmplticmpgtimovf  subf  addif addf  movt  subt  addit addt  ldrpc andi  addi  movi  ldr   str   ldrh  strh  ldrb  strb  jf    sjf   jt    sjt   j     sj    jl    half  ";
 
 // `half` stands in the table's last place, which no instruction has.
 pub const HALF_PLACE: u32 = 81;
 
-// The place of a first half.
+// The place of a first half. Its first byte is `first / 256` in the contract; by to_be_bytes it would be an array's item, to be shown to be that.
 #[tactic(auto, unfolding(crate::specs::Names::place_of))]
 pub fn place_of(first: u16) -> u32
     ensures { result ≡ place_of (first / 256) }
