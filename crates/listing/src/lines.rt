@@ -22,7 +22,7 @@ fn half_in(image: &[u8], at: ByteAddr) -> u16
 fn is_long(first: u16) -> bool
     ensures { result ≡ is_long (first / 256) }
 {
-    let n = first / 256;
+    let [n, _] = first.to_be_bytes();
     224 <= n && n / 4 % 2 == 0
 }
 

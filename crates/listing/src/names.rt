@@ -11,12 +11,13 @@ const NAMES: [u8; 492] =
 // `half` stands in the table's last place, which no instruction has.
 pub const HALF_PLACE: u32 = 81;
 
-// The place of a first half. Its first byte is `first / 256` in the contract; by to_be_bytes it would be an array's item, to be shown to be that.
+// The place of a first half.
 #[tactic(auto, unfolding(crate::specs::Names::place_of))]
 pub fn place_of(first: u16) -> u32
     ensures { result ≡ place_of (first / 256) }
 {
-    let n = first as u32 / 256;
+    let [byte, _] = first.to_be_bytes();
+    let n = u32::from(byte);
     match n {
         0..64 => n,
         64..224 => 60 + n / 16,
