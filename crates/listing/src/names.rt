@@ -4,7 +4,7 @@ ghost use Rattle.text.specs.Digits.{glyphs};
 ghost use Rattle.text.specs.Pages.{page, write_on};
 ghost use Rattle.listing.specs.Names.{names, place_of, name_at};
 
-// Six letters for each place, and no &str for each: the definitions names and name_at say the letters so, and theorems find a name again by them.
+// Six letters for each place, and no &str for each: the definitions names and name_at say the letters so, and so does mnemonics of forms, by them.
 const NAMES: [u8; 492] =
     *b"                                                                        lsli  lsri  asri  multi swint       mfsfr mtsfr                                                 jr    jrl   jsfr        sub   add   subc  addc  mov   and   or    xor   sxb   xhw   sxh   zxh   lsl   lsr   asr   mult  cmpeqicmpeq cmphs cmpls cmplt cmpgt cmplticmpgtimovf  subf  addif addf  movt  subt  addit addt  ldrpc andi  addi  movi  ldr   str   ldrh  strh  ldrb  strb  jf    sjf   jt    sjt   j     sj    jl    half  ";
 
