@@ -8,7 +8,8 @@ use std::io;
 use std::io::Read;
 use word::{ByteAddr, Width};
 
-// What is larger than its room is cut: a case that keeps to the limits of docs/CORPUS.md is not.
+// What is larger than its room is cut: a case that keeps to the limits of docs/CORPUS.md is not. The rooms are of fixed length, since a proved program has
+// no heap (docs/DECISIONS.md).
 #[derive(Clone, Copy)]
 pub struct Sizes {
     pub memory: usize,
