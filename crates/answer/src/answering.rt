@@ -9,7 +9,7 @@ ghost use Rattle.answer.specs.Answer.{room_after, ran_of, ran_text, answer_by};
 
 use crate::writing::{put_bad, put_ended};
 use machine::Ended;
-use script::{Phase, Reader};
+use script::{Memory, Phase, Reader};
 
 // On a fresh state and a tape of zeros.
 fn run_fresh(budget: u32, m: &mut [u8], k: &mut [u8]) -> Ended
@@ -21,6 +21,7 @@ fn run_fresh(budget: u32, m: &mut [u8], k: &mut [u8]) -> Ended
     machine::run::run(budget as usize, &tape, machine::fresh(), m, k)
 }
 
+// `m` and `k` apart, not a `Memory`: the borrow checker does not cover two slices of fields lent behind one reference, and 16,384 bytes are not copied for it.
 fn run_on(size: u32, budget: u32, m: &mut [u8], k: &mut [u8]) -> Ended
     ensures value { result ≡ (ran_of size budget m.old (bits k.old)).ended }
     ensures m_after { m.new ≡ (ran_of size budget m.old (bits k.old)).mem ++ drop size m.old }
@@ -31,30 +32,24 @@ fn run_on(size: u32, budget: u32, m: &mut [u8], k: &mut [u8]) -> Ended
     run_fresh(budget, &mut m[..n], &mut k[..j])
 }
 
-fn run_script(
-    size: u32,
-    budget: u32,
-    m: &mut [u8; 16384],
-    k: &mut [u8; 2048],
-    out: &mut [u8],
-) -> usize
-    ensures result_after { page out.new result ≡ write_on (ran_text size budget m.old (bits k.old)).text (page out.old 0) }
-    ensures m_after { m.new ≡ (ran_text size budget m.old (bits k.old)).mem }
-    ensures k_after { bits k.new ≡ (ran_text size budget m.old (bits k.old)).marks }
+fn run_script(size: u32, budget: u32, memory: &mut Memory, out: &mut [u8]) -> usize
+    ensures result_after { page out.new result ≡ write_on (ran_text size budget memory.old.bytes (bits memory.old.marks)).text (page out.old 0) }
+    ensures bytes_after { memory.new.bytes ≡ (ran_text size budget memory.old.bytes (bits memory.old.marks)).mem }
+    ensures marks_after { bits memory.new.marks ≡ (ran_text size budget memory.old.bytes (bits memory.old.marks)).marks }
 {
-    let e = run_on(size, budget, m, k);
+    let e = run_on(size, budget, &mut memory.bytes, &mut memory.marks);
     put_ended(out, e)
 }
 
 // After the last part: the text that the program writes, from the start of `out`, and its length.
 #[tactic(auto, unfolding(crate::specs::Answer::answered))]
-pub fn answer(r: Reader, m: &mut [u8; 16384], k: &mut [u8; 2048], out: &mut [u8; 256]) -> usize
-    ensures result_after { page out.new result ≡ write_on (answer_by r m.old (bits k.old)).text (page out.old 0) }
-    ensures m_after { m.new ≡ (answer_by r m.old (bits k.old)).mem }
-    ensures k_after { bits k.new ≡ (answer_by r m.old (bits k.old)).marks }
+pub fn answer(r: Reader, memory: &mut Memory, out: &mut [u8; 256]) -> usize
+    ensures result_after { page out.new result ≡ write_on (answer_by r memory.old.bytes (bits memory.old.marks)).text (page out.old 0) }
+    ensures bytes_after { memory.new.bytes ≡ (answer_by r memory.old.bytes (bits memory.old.marks)).mem }
+    ensures marks_after { bits memory.new.marks ≡ (answer_by r memory.old.bytes (bits memory.old.marks)).marks }
 {
     match r.phase {
-        Phase::Done(size, budget) if r.used == 0 => run_script(size, budget, m, k, out),
+        Phase::Done(size, budget) if r.used == 0 => run_script(size, budget, memory, out),
         _ => put_bad(out, r.number),
     }
 }

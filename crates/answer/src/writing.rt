@@ -1,4 +1,5 @@
 // What is written of an answer: text into `out`, from a place on; each function answers where the next byte goes.
+// Part by part, as the definitions `bad_text`, `end_text`, `pc_text` and `register_line` are joined and `write_on` has it; there is no heap for a String.
 ghost use Rattle.std.specs.Prelude.{◌≡◌};
 ghost use Rattle.text.specs.Pages.{page, write_on};
 ghost use Rattle.answer.specs.Answer.{bad_text, end_text, pc_text, register_line, register_text, registers_text, state_text, ended_text};
@@ -63,6 +64,7 @@ fn put_registers(out: &mut [u8], from: usize, regs: [u32; 16], marks: [bool; 16]
     ensures { page out.new result ≡ write_on (registers_text 16 0 regs marks) (page out.old from) }
 {
     let mut at = from;
+    // By number: it is written too, and the definition `registers_text` reads both lists at it.
     for i in 0..16 {
         at = put_register(out, at, i, regs[i], marks[i]);
     }
@@ -82,6 +84,7 @@ pub fn put_ended(out: &mut [u8], e: Ended) -> usize
 {
     let n = instruction::number(e.reply);
     let a = put_end(out, n, e.steps);
+    // A refusal is told by its number, as in the definition `ended_text`.
     if n < 10 {
         return a;
     }

@@ -1,4 +1,5 @@
-// What a call answers.
+// What a call answers: the three numbers that `manik_assemble` of include/manik.h gives to C, by `reply_of`, `line_of` and `end_of` of specs/Assemble.antt, 0 where
+// there is none.
 ghost use Rattle.std.specs.Prelude.{◌≡◌};
 ghost use Rattle.asm.specs.Assemble.{number_of, reply_of, line_of, end_of};
 
@@ -32,6 +33,7 @@ pub fn end(a: Assembled) -> usize
     }
 }
 
+// No From: `asm::number` is public, and a second name for `as u32` is no plainer.
 pub fn number(r: Refusal) -> u32
     ensures { result ≡ number_of r }
 {

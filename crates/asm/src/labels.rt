@@ -42,6 +42,7 @@ impl Table {
         &self.entries[..self.count]
     }
 
+    // Number 0 is no label: `is_new` and `label_check` of specs/Assemble.antt compare with it.
     fn is_new(&self, k: u64) -> bool
         ensures { result ≡ is_new self.now.keys k }
     {

@@ -16,12 +16,14 @@ use forms::{What, shape_of, table};
 use isa::Encoded;
 use word::ByteAddr;
 
+// The remainder stands: a cast must lose nothing, and `address_of` of specs/Assemble.antt is modulo 2^32.
 fn address_of(at: usize) -> ByteAddr
     ensures { result ≡ address_of at }
 {
     ByteAddr((at % 4294967296) as u32)
 }
 
+// A flag and 0: `label_for` and `bytes_for` of specs/Assemble.antt say both for a line of unknown form, which sets no label and takes no bytes.
 fn label_for(known: bool, line: &Line) -> u64
     ensures { result ≡ label_for known (first_line line.now.text.now) }
 {
@@ -60,17 +62,13 @@ fn put_bits(image: &mut [u8], to: usize, e: Option<Encoded>) -> usize
     };
     match bits {
         Encoded::Half(h) => {
-            let bytes = [(h / 256) as u8, (h % 256) as u8];
+            let bytes = h.to_be_bytes();
             text::put_all(image, to, &bytes)
         }
         Encoded::Pair(h, s) => {
-            let bytes = [
-                (h / 256) as u8,
-                (h % 256) as u8,
-                (s / 256) as u8,
-                (s % 256) as u8,
-            ];
-            text::put_all(image, to, &bytes)
+            let [a, b] = h.to_be_bytes();
+            let [c, d] = s.to_be_bytes();
+            text::put_all(image, to, &[a, b, c, d])
         }
     }
 }
@@ -114,7 +112,7 @@ impl Source<'_> {
         while at < self.text.len() {
             let line = Line::new(text::end_part(self.text, at));
             let w = line.what(self.table);
-            let n = bytes_for(true, w);
+            let n = shape_of(w).size;
             let room = room_check(to, n, end);
             let a = address_of(to);
             lines += 1;
@@ -139,7 +137,7 @@ impl Source<'_> {
             let line = Line::new(text::end_part(self.text, at));
             let w = line.what(self.table);
             to = put_bits(image, to, line.encoded(w, labels, a));
-            a = word::byte_sum(a, bytes_for(true, w));
+            a = word::byte_sum(a, shape_of(w).size);
             at += line.cut.end + 1;
         }
         to
@@ -160,6 +158,7 @@ pub fn assemble(text: &[u8], start: usize, image: &mut [u8]) -> Assembled
     ensures { answered result image.new ≡ assembled_of text.now start image.old }
 {
     if is_outside(start, image.len()) {
+        // Line 0, since `verdict_in` of specs/Assemble.antt says it: no line is at fault.
         return Err((Refusal::Start, 0));
     }
     let table = table();

@@ -103,7 +103,7 @@ fn is_hit(enabled: bool, a: u32, b: u32) -> bool
 pub fn has_break(c: Control) -> bool
     ensures { result ≡ is_break c }
 {
-    // Both are asked: without the second, where the first is so, the machine's loop costs 10 instructions a step more.
+    // Both are asked first: with `||` between the two calls the machine's loop costs 10 instructions a step more.
     let zero = is_hit(word::is_on(c.hwdbg, 2), c.bp0, c.pc);
     let one = is_hit(word::is_on(c.hwdbg, 3), c.bp1, c.pc);
     zero || one
@@ -174,7 +174,7 @@ pub fn entry_cost(e: Entry) -> u8
     }
 }
 
-// A match on TIMER costs the compiler fewer instructions than a comparison.
+// A match on TIMER costs the machine's loop fewer instructions than a comparison.
 fn fall(te: bool, n: u32, c: Control) -> Control
     ensures { result ≡ fallen te n c }
 {

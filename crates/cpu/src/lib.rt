@@ -21,6 +21,7 @@ pub use values::{
     alu, compare, compare_imm, conditional, conditional_imm, immediate, loaded, shift_imm, stored,
 };
 
+// Special function registers go by the guide's numbers, and bits of PSW and HWDBG by their places, as the definitions of specs/ write them (`with_sfr`, `entered`).
 #[derive(Clone, Copy)]
 pub struct Control {
     pub pc: u32,
@@ -57,7 +58,8 @@ pub struct Sources {
     pub second: u32,
 }
 
-// An entry: a swint's four bits, the hit that a debug entry shows, the line of an external one, and bus errors of a fetch and of data.
+// An entry: none, a swint's four bits, the hit that a debug entry shows, the line of an external one, and bus errors of a fetch and of data. That none is made has
+// its line in `entered` and `entry_cost` as each of the others has, so it is a case and no `None`.
 #[derive(Clone, Copy)]
 pub enum Entry {
     Nothing,
@@ -69,8 +71,8 @@ pub enum Entry {
     DataError,
 }
 
-// There are sixteen registers: this is none of them. A number, and no Option, since `no_reg` of specs/Exec.antt, which theorems speak of, is this one.
+// There are sixteen registers: this is none of them. A number, and no Option, since the definitions `no_reg` (specs/Exec.antt) and `after` (crate machine) say it.
 pub const NO_REG: u32 = 16;
 
-// A register that an instruction does not look at. The loop reads two registers at every step, and so does `sources_of` of specs/Exec.antt: no Option.
+// A register that an instruction does not look at. A number, and no Option, since the definition `sources_of` (specs/Exec.antt) names two for each instruction.
 const UNREAD: u32 = 0;

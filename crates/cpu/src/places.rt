@@ -1,4 +1,4 @@
-// The control part, and the ways to change one place of it.
+// The control part, and the ways to change one place of it, one for each definition of specs/Control.antt that its contract names.
 #![tactic(auto, unfolding(crate::specs::Control::with_pc, crate::specs::Control::with_sfr, crate::specs::Control::with_pending, crate::specs::Control::with_cycles))]
 
 ghost use Rattle.std.specs.Prelude.{◌≡◌};

@@ -27,7 +27,8 @@ fn feed_all(
     Ok(())
 }
 
-// At most 10,000 inputs, so that the loop ends.
+// At most 10,000 inputs, so that the loop ends. A loop for vectors and vectors_asm too would take the room that is read first and a closure that
+// borrows the others: no shorter than this one.
 fn answer_all(rt: &impl Print, input: &mut impl Read) -> io::Result<()> {
     let mut name = [0u8; 41];
     let mut count = [0u8; 8];

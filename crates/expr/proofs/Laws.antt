@@ -11,7 +11,9 @@ use lib.Dec.{ltb}
 use borrow.Author.Tests.{ltb-true, ltb-false, eq-eqb, ne_eqb}
 use lib.ListN.{length, get_or, take, drop, length-drop, drop_of_length-le}
 use lib.Seq.{take_all, drop-cons, drop-drop, get_or-drop}
-use Rattle.expr.specs.Expr.{Labels, size_of, adds, multiplies, onward, joined_of, chain_of, items_of, sign_of, signed_of, closed_of, leaf_of, plain_with, operand_with, sum_with, inside_of, operand_of, sum_of}
+use Rattle.expr.specs.Expr.{Labels, size_of, onward, joined_of, chain_of, items_of, sign_of, signed_of, closed_of, leaf_of, plain_with, operand_with, sum_with, inside_of, operand_of, sum_of}
+use Rattle.expr.specs.Parts.{joins_in}
+use Rattle.expr.specs.declared.cycle.Level.{Level}
 use Rattle.expr.specs.declared.Value.{Value}
 use Rattle.expr.specs.Expr.{Read}
 use Rattle.expr.specs.declared.Fault.{Fault}
@@ -82,21 +84,19 @@ pub got_same : (v w : Value) (n m : ℕ) → ◌≡◌ {A = Read} (Ok (v, n)) (O
 unfolding value_of size_of
 got_same v w n m e = (ap value_of e, ap size_of e)
 
--- ---- where a chain of factors or of terms goes on
+-- ---- where a chain goes on
 
-pub factor_there : (s : List ℕ) (i b : ℕ) → b ≡ get_or s i 0 → b ≡ 42 → (i < length s) × (multiplies (get_or s i 0) ≡ true)
-factor_there s i b e f = (within s i (λ z. omega (arith, e ∙ z, f)), ap multiplies (sym e ∙ f))
+not_at_end : (level : Level) → joins_in level 0 ≡ true → ⊥
+not_at_end Level.Sum e = let z : ◌≡◌ {A = ℕ} 0 1 = cc in omega arith
+not_at_end Level.Product e = let z : ◌≡◌ {A = ℕ} 0 1 = cc in omega arith
 
-pub term_there : (s : List ℕ) (i b : ℕ) (r : Bool) → b ≡ get_or s i 0 → r ≡ adds b → r ≡ true → (i < length s) × (adds (get_or s i 0) ≡ true)
-term_there s i b r e f g =
-    let t : adds (get_or s i 0) ≡ true = ap adds (sym e) ∙ sym f ∙ g in
-    (within s i (λ z. let k : false ≡ true = ap adds (sym z) ∙ t in let n : ◌≡◌ {A = ℕ} 0 1 = cc in omega arith), t)
+pub joins_there : (level : Level) (s : List ℕ) (i b : ℕ) (r : Bool) → b ≡ get_or s i 0 → r ≡ joins_in level b → r ≡ true → (i < length s) × (joins_in level (get_or s i 0) ≡ true)
+joins_there level s i b r e f g =
+    let t : joins_in level (get_or s i 0) ≡ true = ap (joins_in level) (sym e) ∙ sym f ∙ g in
+    (within s i (λ z. not_at_end level (ap (joins_in level) (sym z) ∙ t)), t)
 
-pub no_factor : (s : List ℕ) (i b : ℕ) → b ≡ get_or s i 0 → (b ≡ 42 → ⊥) → multiplies (get_or s i 0) ≡ false
-no_factor s i b e f = ap multiplies (sym e) ∙ ne_eqb b 42 f
-
-pub no_term : (s : List ℕ) (i b : ℕ) (r : Bool) → b ≡ get_or s i 0 → r ≡ adds b → r ≡ false → adds (get_or s i 0) ≡ false
-no_term s i b r e f g = ap adds (sym e) ∙ sym f ∙ g
+pub joins_not : (level : Level) (s : List ℕ) (i b : ℕ) (r : Bool) → b ≡ get_or s i 0 → r ≡ joins_in level b → r ≡ false → joins_in level (get_or s i 0) ≡ false
+joins_not level s i b r e f g = ap (joins_in level) (sym e) ∙ sym f ∙ g
 
 -- ---- a byte that is there
 

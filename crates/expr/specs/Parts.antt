@@ -2,7 +2,8 @@
 -- Assumes nothing.
 use Rattle.std.specs.Prelude.{ℕ, zero, suc, ◌+◌, ◌-◌, Bool, true, false, cond, not, ◌&&◌, ◌||◌, List, [], ◌∷◌, Option, Some, None, ltb, leb, eqb, take, drop}
 use Rattle.expr.specs.declared.turn.Turn.{Turn}
-use Rattle.expr.specs.Expr.{is_letter, is_digit, run_of, key_of, size_of, leaf_of, none, adds, multiplies}
+use Rattle.expr.specs.declared.cycle.Level.{Level}
+use Rattle.expr.specs.Expr.{is_letter, is_digit, run_of, key_of, size_of, leaf_of, none, adds, multiplies, Labels, Read, product_of, operand_of}
 
 -- a letter or a digit
 abbrev pub named : ℕ → Bool
@@ -31,3 +32,12 @@ walk false minus k zero (c ∷ s) =
 unfoldable pub told_by : List ℕ → Option Turn → Bool
 told_by s (Some t) = walk t.wanted t.minus t.depth 0 (drop t.at s)
 told_by s None = false
+
+-- the bytes that join the items of a sum or of a product, and what reads an item
+abbrev pub joins_in : Level → ℕ → Bool
+joins_in Level.Sum = adds
+joins_in Level.Product = multiplies
+
+abbrev pub item_in : Level → Labels → ℕ → List ℕ → Read
+item_in Level.Sum t more = product_of t more
+item_in Level.Product t more = operand_of t more

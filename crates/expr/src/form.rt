@@ -7,7 +7,8 @@ use crate::cycle::is_adding;
 use crate::leaves::leaf;
 use crate::turn::Turn;
 
-// How many bytes of a number or a label lead. Whatever labels mean, their form is the same.
+// How many bytes of a number or a label lead. Whatever labels mean, their form is the same. No Option: `size_of` of specs/Expr.antt is 0 for what is not read, and
+// `walk` of specs/Parts.antt asks for that 0.
 fn leaf_size(s: &[u8]) -> usize
     ensures { (result ≡ size_of (leaf_of none s.now)) × (result ≤ length s.now) }
 {
@@ -26,7 +27,7 @@ fn wanting(s: &[u8], turn: Turn) -> Option<Turn>
     let depth = turn.depth;
     let at = turn.at;
     let c = s[at];
-    if c == 40 {
+    if c == b'(' {
         return Some(Turn {
             wanted: true,
             minus: true,
@@ -34,7 +35,7 @@ fn wanting(s: &[u8], turn: Turn) -> Option<Turn>
             at: at + 1,
         });
     }
-    if turn.minus && c == 45 {
+    if turn.minus && c == b'-' {
         return Some(Turn {
             wanted: true,
             minus: false,
@@ -63,7 +64,7 @@ fn after(s: &[u8], turn: Turn) -> Option<Turn>
     let depth = turn.depth;
     let at = turn.at;
     let c = s[at];
-    if c == 42 || is_adding(c) {
+    if c == b'*' || is_adding(c) {
         return Some(Turn {
             wanted: true,
             minus: true,
@@ -71,7 +72,7 @@ fn after(s: &[u8], turn: Turn) -> Option<Turn>
             at: at + 1,
         });
     }
-    if c == 41 && 0 < depth {
+    if c == b')' && 0 < depth {
         return Some(Turn {
             wanted: false,
             minus: false,
@@ -103,6 +104,7 @@ pub fn is_sum(s: &[u8]) -> bool
         depth: 0,
         at: 0,
     };
+    // No `for` fits: a step moves by one byte, or by as many as a number or a label has.
     while turn.at < s.len() {
         let Some(next) = step(s, turn) else {
             return false;

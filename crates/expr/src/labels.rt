@@ -5,7 +5,7 @@ ghost use Rattle.expr.specs.Parts.{named, led_by};
 
 use crate::{Entry, Value};
 
-// The byte at a place, 0 past the end.
+// The byte at a place, 0 past the end. No Option: `is_name`, `sign_of`, `plain_with` and `closed_of` of specs/Expr.antt say `get_or` with that 0.
 pub fn byte(s: &[u8], i: usize) -> u8
     ensures { result ≡ get_or s.now i 0 }
 {
@@ -74,7 +74,7 @@ pub fn lead(s: &[u8]) -> Option<(u64, usize)>
     Some((v, s.len()))
 }
 
-// A name's number, 0 for what is no name.
+// A name's number, 0 for what is no name. No Option: `named` of forms/specs/Form.antt is that 0, and the table of slots in forms is searched for the number as it is.
 pub fn label(s: &[u8]) -> u64
     ensures { result ≡ cond (is_name s.now) (key_of s.now) 0 }
 {
@@ -94,7 +94,7 @@ fn find_one(labels: &[Entry], k: u64) -> Option<u32>
     labels.iter().find(|l| l.name == k).map(|l| l.place)
 }
 
-// Where the first label stands whose name has that number. Four at a time: texts look for many labels.
+// Where the first label stands whose name has that number. Four at a time: by `iter().find` alone a line of an assembler text takes some 600 instructions more.
 pub fn find(labels: &[Entry], k: u64) -> Option<u32>
     ensures { result ≡ found labels.now k }
 {

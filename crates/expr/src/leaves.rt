@@ -34,7 +34,7 @@ fn digits(base: u64, from: usize, w: &[u8]) -> Read
 fn is_hex(w: &[u8]) -> bool
     ensures { result ≡ is_hex w.now }
 {
-    2 < w.len() && w[0] == 48 && w[1] == 120
+    2 < w.len() && w[0] == b'0' && w[1] == b'x'
 }
 
 // A word that no letter leads.

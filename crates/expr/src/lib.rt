@@ -19,7 +19,8 @@ pub struct Entry {
     pub place: u32,
 }
 
-// Three cases and no Result of an Option: that a label is unknown is told before a value that is too large.
+// Three cases and no Result: `combined` of specs/Value.antt names them, and tells an unknown label of either operand before a value that is too large; `?` would
+// tell the fault of the left one.
 #[derive(Clone, Copy)]
 pub enum Value {
     Is(i32),

@@ -1,9 +1,10 @@
 // Values, and what an operator makes of two.
-ghost use Rattle.std.specs.Prelude.{◌≡◌, ◌+ℤ◌, ◌-ℤ◌, ◌*ℤ◌};
+ghost use Rattle.std.specs.Prelude.{◌≡◌};
 ghost use Rattle.expr.specs.Value.{fitted, applied, combined, written};
 
 use crate::Value;
 
+// Beside `write`, and no generic one for both: `fitted` of specs/Value.antt speaks of ℤ, `written` of ℕ, and a trait that says so of both types is longer than they are.
 fn fit(v: i64) -> Value
     ensures { result ≡ fitted v }
 {
@@ -14,31 +15,15 @@ fn fit(v: i64) -> Value
 }
 
 // Sums, differences and products of 32 signed bits fit in 64.
-fn plus(a: i32, b: i32) -> Value
-    ensures { result ≡ fitted (a +ℤ b) }
-{
-    fit(a as i64 + b as i64)
-}
-
-fn minus(a: i32, b: i32) -> Value
-    ensures { result ≡ fitted (a -ℤ b) }
-{
-    fit(a as i64 - b as i64)
-}
-
-fn times(a: i32, b: i32) -> Value
-    ensures { result ≡ fitted (a *ℤ b) }
-{
-    fit(a as i64 * b as i64)
-}
-
+#[tactic(auto, unfolding(crate::specs::Value::applied))]
 fn apply(c: u8, a: i32, b: i32) -> Value
     ensures { result ≡ applied c a b }
 {
+    let (x, y) = (a as i64, b as i64);
     match c {
-        42 => times(a, b),
-        43 => plus(a, b),
-        _ => minus(a, b),
+        b'*' => fit(x * y),
+        b'+' => fit(x + y),
+        _ => fit(x - y),
     }
 }
 

@@ -1,7 +1,7 @@
 -- Laws that the functions' proofs cite.
 -- Assumes nothing.
-use Prim.Native.Nat.{ℕ, suc, ◌+◌, ◌-◌, ◌<◌, ◌≤◌}
-use mathlib.Core.Path.{◌≡◌, refl, sym, ap, subst, ◌∙◌}
+use Prim.Native.Nat.{ℕ, suc, ◌+◌, ◌<◌, ◌≤◌}
+use mathlib.Core.Path.{◌≡◌, refl, sym, ap, ◌∙◌}
 use mathlib.Core.Bool.{Bool, true, false, cond, not, ◌||◌, ◌&&◌}
 use lib.Pointwise.{pointwise}
 use Rattle.text.specs.Fields.{same_of}
@@ -14,14 +14,12 @@ use mathlib.Core.List.{List, [], ◌∷◌}
 use native.Mathlib.Numerals.{add-one}
 use native.Mathlib.Omega.{arith}
 use lib.Dec.{eqb}
-use lib.IntN.{ℤ, pos, negsuc, ◌-ℤ◌, nat_abs}
-use lib.Signed.{mag, lt_z}
-use mir.Val.{SFits, to_z, of_z}
-use mir.ValLaws.{to_z-of_z}
+use lib.IntN.{ℤ, pos, negsuc}
+use mir.Val.{of_z}
 use mir.Syntax.{w32}
 use lib.ListN.{length, get_or, take, drop, length-drop, drop_of_length-le}
 use lib.Seq.{drop-cons, drop-drop, length-take-le}
-use borrow.Author.Tests.{eqb-true, ltb-true, ltb-false, le-ltb}
+use borrow.Author.Tests.{eqb-true, ltb-false}
 use Rattle.word.specs.Bits.{num}
 use Rattle.expr.proofs.Laws.{beyond}
 use Rattle.forms.specs.Form.{tabs_in, onto_first, lines_of}
@@ -151,48 +149,7 @@ line_there x l i h e =
 
 -- ---- values as bits
 
-negative : (z : ℤ) → lt_z z (pos 0) ≡ true → negsuc 0 -ℤ z ≡ pos (mag z)
-negative (pos n) h = let k : n < 0 = ltb-true n 0 h in absurd (omega arith)
-negative (negsuc n) h = let e : suc n - 1 ≡ n = omega arith in rw (le-ltb (suc n) 1 (omega arith), e)
-
-bits_negative : (z : ℤ) → lt_z z (pos 0) ≡ true → 4294967295 - mag z ≡ bits_of z
+pub cast_is : (z : ℤ) → of_z w32 z ≡ bits_of z
 unfolding bits_of
-bits_negative (pos n) h = let k : n < 0 = ltb-true n 0 h in absurd (omega arith)
-bits_negative (negsuc n) h = refl
-
-bits_other : (z : ℤ) → lt_z z (pos 0) ≡ false → nat_abs z ≡ bits_of z
-unfolding bits_of
-bits_other (pos n) h = refl
-bits_other (negsuc n) h = let k : ◌≡◌ {A = ℕ} 0 1 = cc in absurd (omega arith)
-
-not_negative : (z : ℤ) → lt_z z (pos 0) ≡ false → z ≡ pos (mag z)
-not_negative (pos n) h = refl
-not_negative (negsuc n) h = let k : ◌≡◌ {A = ℕ} 0 1 = cc in absurd (omega arith)
-
--- a value in a register, z as its bits and read again
-module _ (z : ℤ) (f : SFits w32 z) where
-  again : to_z w32 (of_z w32 z) ≡ z
-  again = to_z-of_z w32 z f
-
-  module _ (h : lt_z (to_z w32 (of_z w32 z)) (pos 0) ≡ true) where
-    less : lt_z z (pos 0) ≡ true
-    less = subst (λ (x : ℤ). lt_z x (pos 0) ≡ true) again h
-
-    pub turned : negsuc 0 -ℤ to_z w32 (of_z w32 z) ≡ pos (mag z)
-    turned = ap (λ (x : ℤ). negsuc 0 -ℤ x) again ∙ negative z less
-
-    pub turned_again : to_z w32 (of_z w32 (negsuc 0 -ℤ to_z w32 (of_z w32 z))) ≡ pos (mag z)
-    turned_again = rw turned (to_z-of_z w32 (pos (mag z)) (record { sfits = f.sfits }))
-
-    pub its_bits : 4294967295 - mag z ≡ bits_of z
-    its_bits = bits_negative z less
-
-  module _ (h : lt_z (to_z w32 (of_z w32 z)) (pos 0) ≡ false) where
-    more : lt_z z (pos 0) ≡ false
-    more = subst (λ (x : ℤ). lt_z x (pos 0) ≡ false) again h
-
-    pub whole : to_z w32 (of_z w32 z) ≡ pos (mag z)
-    whole = again ∙ not_negative z more
-
-    pub whole_bits : nat_abs (to_z w32 (of_z w32 z)) ≡ bits_of z
-    whole_bits = ap nat_abs again ∙ bits_other z more
+cast_is (pos n) = refl
+cast_is (negsuc n) = omega arith

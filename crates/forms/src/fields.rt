@@ -5,7 +5,8 @@ ghost use Rattle.forms.specs.Parts.{stop_at, end_at, past_tab, cut_of};
 
 use crate::Cut;
 
-// The place of the next tab or newline.
+// The place of the next tab or newline. It is no one function with `end_from`: stop_of and end_of are two definitions, so that one that takes the test
+// would need a third, and a lemma for each of the two.
 fn stop_from(t: &[u8], from: usize) -> usize
     ensures { result ≡ stop_at t.now from }
 {

@@ -6,6 +6,13 @@ ghost use Rattle.forms.specs.Parts.{place_in, fits_fields, known_fields};
 use crate::shapes::{numbered, place_in, register, tabs_for, what_at};
 use crate::{Shape, Sort, What};
 
+// How many registers there are, SFRs, and SFRs that jsfr takes.
+const REGS: u32 = 16;
+
+const SFRS: u32 = 11;
+
+const LOW_SFRS: u32 = 4;
+
 // What a name names. The table of mnemonics is lent, since it is made anew wherever it is called for.
 pub fn what_of(name: &[u8], table: &[u64; 312]) -> What
     ensures { result ≡ what_at (place_in table.now (named name.now)) }
@@ -19,8 +26,8 @@ pub fn number_at(s: Sort, field: &[u8]) -> u32
 {
     match s {
         Sort::Reg => register(field),
-        Sort::Sfr => numbered(b"sfr", 11, field),
-        Sort::LowSfr => numbered(b"sfr", 4, field),
+        Sort::Sfr => numbered(b"sfr", SFRS, field),
+        Sort::LowSfr => numbered(b"sfr", LOW_SFRS, field),
         Sort::Nothing | Sort::Never | Sort::Sum => 0,
     }
 }
@@ -32,9 +39,9 @@ fn is_of(s: Sort, field: &[u8]) -> bool
     match s {
         Sort::Nothing => true,
         Sort::Never => false,
-        Sort::Reg => number_at(Sort::Reg, field) < 16,
-        Sort::Sfr => number_at(Sort::Sfr, field) < 11,
-        Sort::LowSfr => number_at(Sort::LowSfr, field) < 4,
+        Sort::Reg => number_at(s, field) < REGS,
+        Sort::Sfr => number_at(s, field) < SFRS,
+        Sort::LowSfr => number_at(s, field) < LOW_SFRS,
         Sort::Sum => expr::is_sum(field),
     }
 }

@@ -20,7 +20,8 @@ pub enum What {
     Word,
 }
 
-// What an operand field holds; `Never` is that of no line.
+// What an operand field holds: nothing, a register, an SFR, one of the first four, or a sum. `Never` is that of no line. The definition `kind_shape` names three
+// for each kind, `Nothing` and `Never` like the others.
 #[derive(Clone, Copy)]
 pub enum Sort {
     Nothing,

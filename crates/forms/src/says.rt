@@ -10,14 +10,11 @@ use word::{ByteAddr, HalfDisp, Width};
 // What fits no place: in no field's range. It is no `None`, since the definitions scaled, halves_to and words_to say this number.
 const UNFIT: u32 = 1073741824;
 
-#[tactic(auto, using(crate::proofs::Laws::turned_again, crate::proofs::Laws::its_bits, crate::proofs::Laws::whole_bits))]
+#[tactic(auto, using(crate::proofs::Laws::cast_is))]
 pub fn bits_of(z: i32) -> u32
     ensures { result ≡ bits_of z }
 {
-    if z < 0 {
-        return 4294967295 - (-1 - z) as u32;
-    }
-    z as u32
+    z.cast_unsigned()
 }
 
 #[tactic(auto, unfolding(crate::specs::Says::scaled))]

@@ -36,7 +36,8 @@ fn put_entry(table: &mut [u64; 312], k: u64, place: usize)
     }
 }
 
-// A slot for each rest, so that a mnemonic is found at once.
+// A slot for each rest, so that a mnemonic is found at once. It is no map, since the definitions slots and with_entry say the 312 numbers, and that k and p are
+// held as k * 128 + p; and there is no heap.
 pub fn table() -> [u64; 312]
     ensures { result ≡ slots }
 {
@@ -131,13 +132,14 @@ pub fn shape_of(w: What) -> Shape
     }
 }
 
+// The limit for none, as the definition below says.
 fn below_limit(limit: u32, n: Option<u32>) -> u32
     ensures { result ≡ below limit n }
 {
     n.unwrap_or(limit).min(limit)
 }
 
-// The number after a register's or an SFR's letters; the limit where there is none.
+// The number after a register's or an SFR's letters; the limit where there is none. It is no `None`, since the definition numbered_of says the limit there.
 pub fn numbered(letters: &[u8], limit: u32, field: &[u8]) -> u32
     ensures { result ≡ numbered_of letters.now limit field.now }
 {
@@ -147,6 +149,7 @@ pub fn numbered(letters: &[u8], limit: u32, field: &[u8]) -> u32
     }
 }
 
+// 16 for none, the limit that numbered_of says in the contract of `register`.
 fn digit_below(limit: u32, from: u32, c: u8) -> u32
     requires { from + limit ≤ 16 }
     ensures { result ≡ cond (ltb (value_of c) limit) (from + value_of c) 16 }

@@ -10,14 +10,10 @@ use Rattle.cpu.specs.declared.Control.{Control}
 use Rattle.marks.specs.Marks.{taint, blocked}
 use Rattle.marks.specs.Memory.{Marks, marked_at}
 use Rattle.marks.specs.declared.Flags.{Flags}
+use Rattle.instruction.specs.declared.Val.{Val}
 use Rattle.instruction.specs.declared.Halt.{Halt}
 use Rattle.instruction.specs.declared.Reach.{Reach}
 use Rattle.instruction.specs.declared.Act.{Act}
-
--- a register's value and mark
-pub record Val : Type 0 where
-  pub value : ℕ
-  pub mark : Bool
 
 -- what an instruction reaches beside the registers: nothing, memory, or the entry of a swint
 unfoldable pub reach_of : Instr → ℕ → Control → Reach

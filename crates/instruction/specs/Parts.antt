@@ -16,7 +16,7 @@ use Rattle.marks.specs.Marks.{with}
 use Rattle.marks.specs.Memory.{Marks, marked_at}
 use Rattle.marks.specs.declared.Flags.{Flags}
 use Rattle.instruction.specs.Fetch.{half_at, after_half}
-use Rattle.instruction.specs.Act.{Val}
+use Rattle.instruction.specs.declared.Val.{Val}
 use Rattle.instruction.specs.declared.Halt.{Halt}
 use Rattle.instruction.specs.declared.Reach.{Reach}
 use Rattle.instruction.specs.declared.Act.{Act}

@@ -45,7 +45,7 @@ fn is_long(d: Kind) -> bool
     matches!(d, Kind::LongJump(_))
 }
 
-// The second half of a long jump, 0 for any other kind. One place reads operands, so that the compiler lays it into the loop.
+// The second half of a long jump, 0 for any other kind, as the definition `second_half` says. One place reads operands, so that the compiler lays it into the loop.
 fn second_half(d: Kind, at: ByteAddr, m: &[u8], mk: &[u8]) -> Result<u16, Halt>
     ensures { result ≡ second_half d at m.now (bits mk.now) }
 {

@@ -27,6 +27,13 @@ pub enum Reply {
     MarkedOperand = 14,
 }
 
+// A register's value and mark.
+#[derive(Clone, Copy)]
+pub struct Val {
+    pub value: u32,
+    pub mark: bool,
+}
+
 // Why an instruction is not done, in the order of the tests. An access outside memory is a bus error; the others stop the run.
 #[derive(Clone, Copy, Debug, PartialEq, Eq)]
 pub enum Halt {
@@ -37,7 +44,8 @@ pub enum Halt {
     DataOutside,
 }
 
-// What an instruction reaches beside the registers: memory, or the entry of a swint.
+// What an instruction reaches beside the registers: nothing, memory, or the entry of a swint. `Nowhere` has its line in each of the definitions `stored_to`,
+// `marked_to`, `entry_by` and `data_of`, so an Option round the others would be opened four times and be no plainer.
 #[derive(Clone, Copy)]
 pub enum Reach {
     Nowhere,
@@ -52,7 +60,8 @@ pub fn number(r: Reply) -> u32
     r as u32
 }
 
-// One instruction: it is not done, or has an effect, marks, and a place that it reaches.
+// One instruction: it is not done, or has an effect, marks, and a place that it reaches. As a Result it costs the machine's loop 29 to 39 instructions a step,
+// of about 100.
 #[derive(Clone, Copy)]
 pub enum Act {
     Halted(Halt),

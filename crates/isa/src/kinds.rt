@@ -142,7 +142,7 @@ fn low_kind(byte: u8) -> Kind
     }
 }
 
-// Tests lead to a row: two jump tables in a row cost the compiler more instructions.
+// Tests lead to a row: two jump tables in a row cost more instructions.
 #[tactic(auto, unfolding(crate::specs::Codes::kind_of))]
 pub fn kind_of(byte: u8) -> Kind
     ensures { result ≡ kind_of byte }

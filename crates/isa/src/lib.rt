@@ -12,7 +12,7 @@ use word::{HalfDisp, Width};
 
 // The number of an operation is its code: the low nibble of the first byte, of ImmOp the high nibble, of a jump the first six bits.
 
-// 0x2?: sub and add set CY; the shifts are by a register.
+// 0x2?: sub, add, subc and addc set CY; the shifts are by a register.
 #[derive(Clone, Copy)]
 pub enum AluOp {
     Sub = 0x0,
@@ -34,6 +34,7 @@ pub enum AluOp {
 }
 
 // 0x0?: by an immediate.
+// Each format below has an enum of the operations that it has, so that no instruction can be made that has no bits.
 #[derive(Clone, Copy)]
 pub enum ShiftOp {
     Lsl = 0xc,
@@ -125,7 +126,7 @@ pub enum Instr {
     LongJump(LongOp, HalfDisp),
 }
 
-// What a first byte says.
+// What a first byte says. `Nothing` is a kind too, and no `None`: the rows of the opcode map (`kind_in` of specs/Codes.antt) name one for each byte.
 #[derive(Clone, Copy)]
 pub enum Kind {
     Nothing,
@@ -149,13 +150,14 @@ pub enum Kind {
     LongJump(LongOp),
 }
 
-// Two bytes, four bytes, or no instruction.
+// An instruction of two bytes or of four.
 #[derive(Clone, Copy)]
 pub enum Decoded {
     Short(Instr),
     Long(Instr),
 }
 
+// The bits of an instruction: one half or two.
 #[derive(Clone, Copy)]
 pub enum Encoded {
     Half(u16),

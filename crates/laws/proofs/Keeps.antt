@@ -31,7 +31,8 @@ use Rattle.marks.specs.Memory.{Marks}
 use Rattle.marks.specs.declared.Flags.{Flags}
 use Rattle.marks.specs.declared.Taint.{Taint}
 use Rattle.instruction.specs.Fetch.{fetch_of}
-use Rattle.instruction.specs.Act.{Val, reach_of, outside, loaded_from, loaded_mark, act_of}
+use Rattle.instruction.specs.Act.{reach_of, outside, loaded_from, loaded_mark, act_of}
+use Rattle.instruction.specs.declared.Val.{Val}
 use Rattle.instruction.specs.declared.Halt.{Halt}
 use Rattle.instruction.specs.declared.Reach.{Reach}
 use Rattle.instruction.specs.declared.Act.{Act}

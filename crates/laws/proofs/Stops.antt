@@ -14,7 +14,8 @@ use Rattle.marks.specs.Memory.{Marks, bad_room, bad_mark}
 use Rattle.marks.specs.declared.Flags.{Flags}
 use Rattle.instruction.specs.Reply.{number_of}
 use Rattle.instruction.specs.Fetch.{fetch_of}
-use Rattle.instruction.specs.Act.{Val, reach_of, act_of}
+use Rattle.instruction.specs.Act.{reach_of, act_of}
+use Rattle.instruction.specs.declared.Val.{Val}
 use Rattle.instruction.specs.declared.Halt.{Halt}
 use Rattle.instruction.specs.declared.Act.{Act}
 use Rattle.machine.specs.State.{value_at, out_of_form}

@@ -28,7 +28,8 @@ use Rattle.marks.specs.Marks.{taint, blocked}
 use Rattle.marks.specs.Memory.{Marks, marked_at}
 use Rattle.marks.specs.declared.Taint.{Taint}
 use Rattle.instruction.specs.Fetch.{after_half, guarded, found, fetch_of}
-use Rattle.instruction.specs.Act.{Val, outside, loaded_mark, act_of}
+use Rattle.instruction.specs.Act.{outside, loaded_mark, act_of}
+use Rattle.instruction.specs.declared.Val.{Val}
 use Rattle.instruction.specs.Statements.{decoded_at}
 use Rattle.instruction.specs.declared.Halt.{Halt}
 use Rattle.instruction.specs.declared.Reach.{Reach}

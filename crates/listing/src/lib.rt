@@ -30,7 +30,8 @@ pub enum Row {
     Three(Operand, Operand, Operand),
 }
 
-// Whether it has four bytes, the place of its mnemonic, its operands.
+// Whether it has four bytes, the place of its mnemonic, its operands. `long` and Entry's `second` are no Option of the second half: bits_text of
+// the specs of columns, which its theorems speak of, and second_in here say both.
 #[derive(Clone, Copy)]
 pub struct Shown {
     pub long: bool,
@@ -47,7 +48,8 @@ pub struct Entry {
     pub shown: Shown,
 }
 
-// One line: its bytes from the first on, how many they are, and the address after it.
+// One line: its bytes from the first on, how many they are, and the address after it. There is no heap for a Vec, and the definition line_of says the
+// 48 bytes, zeros after the text, and the length.
 #[derive(Clone, Copy)]
 pub struct Line {
     pub text: [u8; 48],

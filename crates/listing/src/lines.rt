@@ -22,11 +22,11 @@ fn half_in(image: &[u8], at: ByteAddr) -> u16
 fn is_long(first: u16) -> bool
     ensures { result ≡ is_long (first / 256) }
 {
-    let n = first / 256;
+    let [n, _] = first.to_be_bytes();
     224 <= n && n / 4 % 2 == 0
 }
 
-// The second half, where the first says that there is one.
+// The second half, where the first says that there is one; else 0, as the definition second_in says.
 fn second_in(image: &[u8], at: ByteAddr, first: u16) -> u16
     ensures { result ≡ second_in image.now at first }
 {
@@ -86,6 +86,7 @@ pub fn entry_at(image: &[u8], at: ByteAddr, end: usize) -> Entry
     }
 }
 
+// By the flag, as the definition size_of says it.
 pub fn size(long: bool) -> u32
     ensures { (result ≡ cond long 4 2) × (2 ≤ result) × (result ≤ 4) }
 {
@@ -116,7 +117,7 @@ fn put_head(out: &mut [u8], at: usize, tables: &Tables, a: u32, first: u16) -> u
     text::put_all(out, at, &head)
 }
 
-// The second half, where there is one.
+// The second half, where there is one. The definition second_text takes the flag.
 #[tactic(auto, unfolding(text::specs::Pages::write_on))]
 fn put_second(out: &mut [u8], at: usize, long: bool, second: u16) -> usize
     ensures { page out.new result ≡ write_on (second_text long second) (page out.old at) }

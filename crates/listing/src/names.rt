@@ -4,7 +4,7 @@ ghost use Rattle.text.specs.Digits.{glyphs};
 ghost use Rattle.text.specs.Pages.{page, write_on};
 ghost use Rattle.listing.specs.Names.{names, place_of, name_at};
 
-// Six letters for each place.
+// Six letters for each place, and no &str for each: the definitions names and name_at say the letters so, and so does mnemonics of forms, by them.
 const NAMES: [u8; 492] =
     *b"                                                                        lsli  lsri  asri  multi swint       mfsfr mtsfr                                                 jr    jrl   jsfr        sub   add   subc  addc  mov   and   or    xor   sxb   xhw   sxh   zxh   lsl   lsr   asr   mult  cmpeqicmpeq cmphs cmpls cmplt cmpgt cmplticmpgtimovf  subf  addif addf  movt  subt  addit addt  ldrpc andi  addi  movi  ldr   str   ldrh  strh  ldrb  strb  jf    sjf   jt    sjt   j     sj    jl    half  ";
 
@@ -16,7 +16,8 @@ pub const HALF_PLACE: u32 = 81;
 pub fn place_of(first: u16) -> u32
     ensures { result ≡ place_of (first / 256) }
 {
-    let n = first as u32 / 256;
+    let [byte, _] = first.to_be_bytes();
+    let n = u32::from(byte);
     match n {
         0..64 => n,
         64..224 => 60 + n / 16,

@@ -30,7 +30,8 @@ fn is_out_of(length: usize, start: usize, end: usize) -> bool
     65536 < length || start % 2 == 1 || end % 2 == 1 || end < start || length < end
 }
 
-// The lines of a range and their length. Kept lines stand one after the other, others each over the one before it.
+// The lines of a range and their length. Kept lines stand one after the other, others each over the one before it: two functions in place of `keep` would be
+// twins, the same walk with its sum and its invariant twice.
 // How far the next line is, is known only once its instruction is read, so no range goes over the places.
 fn put_lines(out: &mut [u8], image: &[u8], start: u32, end: usize, keep: bool) -> usize
     requires { (start ≤ end) × (end ≤ 65536) × (cond keep (length (listing_of image.now start end)) 48 ≤ length out.old) }

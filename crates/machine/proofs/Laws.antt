@@ -25,7 +25,7 @@ use Rattle.cpu.specs.declared.Entry.{Entry}
 use Rattle.marks.specs.Memory.{Marks, bad_room, bad_mark}
 use Rattle.marks.specs.declared.Flags.{Flags}
 use Rattle.instruction.specs.Fetch.{after_half}
-use Rattle.instruction.specs.Act.{Val}
+use Rattle.instruction.specs.declared.Val.{Val}
 use Rattle.instruction.specs.Parts.{first_half, second_half, by_second, rest_by, by_first}
 use Rattle.instruction.specs.declared.Reply.{Reply}
 use Rattle.instruction.specs.declared.Halt.{Halt}

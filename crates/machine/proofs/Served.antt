@@ -18,7 +18,8 @@ use Rattle.marks.specs.Marks.{taint, blocked}
 use Rattle.marks.specs.Memory.{Marks}
 use Rattle.marks.specs.declared.Flags.{Flags}
 use Rattle.marks.specs.declared.Taint.{Taint}
-use Rattle.instruction.specs.Act.{Val, reach_of, outside, loaded_from, loaded_mark, act_of}
+use Rattle.instruction.specs.Act.{reach_of, outside, loaded_from, loaded_mark, act_of}
+use Rattle.instruction.specs.declared.Val.{Val}
 use Rattle.instruction.specs.Parts.{decoded_to}
 use Rattle.instruction.specs.declared.Halt.{Halt}
 use Rattle.instruction.specs.declared.Act.{Act}

@@ -11,7 +11,8 @@ use Rattle.cpu.specs.declared.Control.{Control}
 use Rattle.cpu.specs.declared.Entry.{Entry}
 use Rattle.marks.specs.declared.Flags.{Flags}
 use Rattle.marks.specs.Memory.{Marks}
-use Rattle.instruction.specs.Act.{Val, reach_of, act_of}
+use Rattle.instruction.specs.Act.{reach_of, act_of}
+use Rattle.instruction.specs.declared.Val.{Val}
 use Rattle.instruction.specs.Parts.{first_half, rest_by}
 use Rattle.instruction.specs.declared.Reply.{Reply}
 use Rattle.instruction.specs.declared.Halt.{Halt}

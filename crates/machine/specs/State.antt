@@ -4,7 +4,7 @@ use Rattle.std.specs.Prelude.{ℕ, ◌%◌, Bool, false, not, ◌&&◌, ◌||◌
 use Rattle.word.specs.Bits.{on, field_of}
 use Rattle.cpu.specs.Control.{fresh_control}
 use Rattle.cpu.specs.declared.Control.{Control}
-use Rattle.instruction.specs.Act.{Val}
+use Rattle.instruction.specs.declared.Val.{Val}
 use Rattle.machine.specs.declared.State.{State}
 
 -- "Fresh: all zero and unmarked, HWDBG 3"

@@ -7,8 +7,8 @@ ghost use Rattle.machine.specs.declared.Event.{Event};
 use crate::Event;
 use cpu::{Control, Entry};
 
-// The lines that are high and enabled are six bits; one bit more, above them, ends the count where there is none. In most steps no
-// line is high; asked first, that leaves the machine's loop as it was.
+// The lowest line that is high and enabled, 6 where there is none, as the definition `lowest` has it. The lines are six bits; one bit more, above them, ends the
+// count. In most steps no line is high, so that is asked first.
 fn lowest_line(t: u32, p: u32) -> u32
     ensures { result ≡ lowest 6 0 t p }
 {

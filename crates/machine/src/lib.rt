@@ -16,7 +16,8 @@ pub use registers::fresh;
 pub use step::entry_of;
 use word::ByteAddr;
 
-// Sixteen registers, each with a mark; the marks of TF and CY; and what is never marked.
+// Sixteen registers, each with a mark; the marks of TF and CY; and what is never marked. Values and marks are two arrays, and not one of `Val`, since document 01
+// names them so and the record of the C interface has them apart.
 #[derive(Clone, Copy)]
 pub struct State {
     pub regs: [u32; 16],
@@ -25,7 +26,7 @@ pub struct State {
     pub control: Control,
 }
 
-// What a step does: an entry, or one instruction.
+// What a step does: an entry, or one instruction. As an Option of an entry it would not say that where there is none an instruction is made.
 #[derive(Clone, Copy)]
 pub enum Event {
     Enter(Entry),

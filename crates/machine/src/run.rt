@@ -1,17 +1,14 @@
 // A run: refusals, or steps until the budget is used up or one stops.
 ghost use Rattle.std.specs.Prelude.{◌≡◌, ℕ, ◌≤◌, length};
 ghost use Rattle.marks.specs.Memory.{bits};
-ghost use Rattle.instruction.specs.Parts.{flags};
 ghost use Rattle.machine.specs.Run.{steps_of, run_of};
-ghost use Rattle.machine.specs.Parts.{state_of};
 
 use crate::refusals::judge_all;
 use crate::registers::put;
 use crate::step::{begin, halt, low_byte, make_step};
 use crate::{Ended, State};
 use cpu::Control;
-use instruction::Reply;
-use marks::Flags;
+use instruction::{Reply, Val};
 
 fn end_at(state: State, steps: usize, reply: Reply) -> Ended
     ensures { result ≡ record { state = state; steps = steps; reply = reply; cycles = state.control.cycles } }
@@ -21,17 +18,6 @@ fn end_at(state: State, steps: usize, reply: Reply) -> Ended
         steps,
         reply,
         cycles: state.control.cycles,
-    }
-}
-
-fn state_from(regs: [u32; 16], marks: [bool; 16], tf: bool, cy: bool, control: Control) -> State
-    ensures { result ≡ state_of regs marks (flags tf cy) control }
-{
-    State {
-        regs,
-        marks,
-        flags: Flags { tf, cy },
-        control,
     }
 }
 
@@ -45,27 +31,40 @@ fn steps(b: usize, t: &[u8], s: State, m: &mut [u8], k: &mut [u8]) -> Ended
 {
     let mut regs = s.regs;
     let mut marks = s.marks;
-    let mut tf = s.flags.tf;
-    let mut cy = s.flags.cy;
+    let mut flags = s.flags;
     let mut control = s.control;
     for n in 0..b {
         let g = begin(u32::from(t[n]), control, m, k);
         let lo = low_byte(g);
         let i = (lo / 16) as usize;
         let j = (lo % 16) as usize;
-        let out = make_step(
-            g, regs[i], marks[i], regs[j], marks[j], tf, cy, control, m, k,
-        );
+        let x = Val {
+            value: regs[i],
+            mark: marks[i],
+        };
+        let y = Val {
+            value: regs[j],
+            mark: marks[j],
+        };
+        let out = make_step(g, x, y, flags, control, m, k);
         match out {
             Err(h) => match halt(h, control) {
                 Err(reply) => {
-                    return end_at(state_from(regs, marks, tf, cy, control), n, reply);
+                    return end_at(
+                        State {
+                            regs,
+                            marks,
+                            flags,
+                            control,
+                        },
+                        n,
+                        reply,
+                    );
                 }
                 Ok(entered) => control = entered,
             },
             Ok(d) => {
-                tf = d.flags.tf;
-                cy = d.flags.cy;
+                flags = d.flags;
                 control = d.control;
                 if d.reg < 16 {
                     let z = d.reg as usize;
@@ -79,7 +78,16 @@ fn steps(b: usize, t: &[u8], s: State, m: &mut [u8], k: &mut [u8]) -> Ended
             }
         }
     }
-    end_at(state_from(regs, marks, tf, cy, control), b, Reply::Budget)
+    end_at(
+        State {
+            regs,
+            marks,
+            flags,
+            control,
+        },
+        b,
+        Reply::Budget,
+    )
 }
 
 // A run over any memory, marks, state, tape and budget.

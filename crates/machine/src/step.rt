@@ -4,7 +4,6 @@ ghost use Rattle.word.specs.Bits.{on};
 ghost use Rattle.cpu.specs.Entries.{entered, passed};
 ghost use Rattle.cpu.specs.Cycles.{entry_cost};
 ghost use Rattle.marks.specs.Memory.{bits};
-ghost use Rattle.instruction.specs.Parts.{val, flags};
 ghost use Rattle.machine.specs.Step.{stored_to, marked_to, entry_by, done_of};
 ghost use Rattle.machine.specs.Parts.{halted_to, begun_of, act_out, act_mem, act_marks, half_act, low_byte, begun_out, begun_mem, begun_marks};
 ghost use Rattle.machine.specs.declared.Begun.{Begun};
@@ -12,7 +11,7 @@ ghost use Rattle.machine.specs.declared.Begun.{Begun};
 use crate::choice::choose;
 use crate::{Begun, Done, Event};
 use cpu::{Control, Effect, Entry};
-use instruction::{Act, Halt, Reach, Reply};
+use instruction::{Act, Halt, Reach, Reply, Val};
 use marks::{Flags, Taint};
 use word::ByteAddr;
 
@@ -85,7 +84,7 @@ fn cost_by(r: Reach, c: Control) -> u8
     }
 }
 
-// The flags go over one by one: as a struct they are packed and unpacked, and the images of bench/ take 92 to 117 instructions a step, in place of 84 to 106.
+// The flags go over one by one: `flags: t.flags` costs 9 instructions a step more.
 fn finish(c: Control, e: Effect, t: Taint, r: Reach) -> Done
     ensures { result ≡ done_of c e t r }
 {
@@ -104,30 +103,30 @@ fn finish(c: Control, e: Effect, t: Taint, r: Reach) -> Done
     }
 }
 
-fn write_at(r: Reach, u: u32, mu: bool, m: &mut [u8], mk: &mut [u8])
-    ensures m_after { m.new ≡ stored_to r u m.old }
-    ensures mk_after { bits mk.new ≡ marked_to r mu (bits mk.old) }
+fn write_at(r: Reach, x: Val, m: &mut [u8], mk: &mut [u8])
+    ensures m_after { m.new ≡ stored_to r x.value m.old }
+    ensures mk_after { bits mk.new ≡ marked_to r x.mark (bits mk.old) }
 {
     match r {
         Reach::Nowhere => {}
         Reach::Reads(_, _) => {}
         Reach::Writes(w, a) => {
-            word::store(w, m, a, u);
-            marks::memory::set_marks(w, mk, a, mu);
+            word::store(w, m, a, x.value);
+            marks::memory::set_marks(w, mk, a, x.mark);
         }
         Reach::Raises(_) => {}
     }
 }
 
-fn act_step(a: Act, u: u32, mu: bool, c: Control, m: &mut [u8], mk: &mut [u8]) -> Result<Done, Halt>
+fn act_step(a: Act, x: Val, c: Control, m: &mut [u8], mk: &mut [u8]) -> Result<Done, Halt>
     ensures value { result ≡ act_out a c }
-    ensures m_after { m.new ≡ act_mem a (val u mu) m.old }
-    ensures mk_after { bits mk.new ≡ act_marks a (val u mu) (bits mk.old) }
+    ensures m_after { m.new ≡ act_mem a x m.old }
+    ensures mk_after { bits mk.new ≡ act_marks a x (bits mk.old) }
 {
     match a {
         Act::Halted(h) => Err(h),
         Act::Does(e, t, r) => {
-            write_at(r, u, mu, m, mk);
+            write_at(r, x, m, mk);
             Ok(finish(c, e, t, r))
         }
     }
@@ -138,28 +137,25 @@ fn act_step(a: Act, u: u32, mu: bool, c: Control, m: &mut [u8], mk: &mut [u8]) -
 fn half_step(
     hi: u8,
     lo: u8,
-    u: u32,
-    mu: bool,
-    v: u32,
-    mv: bool,
-    tf: bool,
-    cy: bool,
+    x: Val,
+    y: Val,
+    f: Flags,
     c: Control,
     m: &mut [u8],
     mk: &mut [u8],
 ) -> Result<Done, Halt>
-    ensures value { result ≡ act_out (half_act hi lo (val u mu) (val v mv) (flags tf cy) c m.old (bits mk.old)) c }
-    ensures m_after { m.new ≡ act_mem (half_act hi lo (val u mu) (val v mv) (flags tf cy) c m.old (bits mk.old)) (val u mu) m.old }
-    ensures mk_after { bits mk.new ≡ act_marks (half_act hi lo (val u mu) (val v mv) (flags tf cy) c m.old (bits mk.old)) (val u mu) (bits mk.old) }
+    ensures value { result ≡ act_out (half_act hi lo x y f c m.old (bits mk.old)) c }
+    ensures m_after { m.new ≡ act_mem (half_act hi lo x y f c m.old (bits mk.old)) x m.old }
+    ensures mk_after { bits mk.new ≡ act_marks (half_act hi lo x y f c m.old (bits mk.old)) x (bits mk.old) }
 {
     let kind = isa::kind_of(hi);
     let half = hi as u16 * 256 + lo as u16;
     let i = instruction::fetch::rest_at(kind, half, ByteAddr(c.pc), m, mk)?;
-    let a = instruction::classes::act_on(i, u, mu, v, mv, tf, cy, c, m, mk);
-    act_step(a, u, mu, c, m, mk)
+    let a = instruction::classes::act_on(i, x, y, f, c, m, mk);
+    act_step(a, x, c, m, mk)
 }
 
-// The byte that names the registers that are read; any would do where no instruction is made.
+// The byte that names the registers that are read; where no instruction is made, 0, as the definition `low_byte` says.
 pub fn low_byte(g: Begun) -> u8
     ensures { result ≡ low_byte g }
 {
@@ -173,29 +169,26 @@ pub fn low_byte(g: Begun) -> u8
 // The rest of a step from its start on, with the registers that the low byte names. An entry writes no register.
 pub fn make_step(
     g: Begun,
-    u: u32,
-    mu: bool,
-    v: u32,
-    mv: bool,
-    tf: bool,
-    cy: bool,
+    x: Val,
+    y: Val,
+    f: Flags,
     c: Control,
     m: &mut [u8],
     mk: &mut [u8],
 ) -> Result<Done, Halt>
-    ensures value { result ≡ begun_out g (val u mu) (val v mv) (flags tf cy) c m.old (bits mk.old) }
-    ensures m_after { m.new ≡ begun_mem g (val u mu) (val v mv) (flags tf cy) c m.old (bits mk.old) }
-    ensures mk_after { bits mk.new ≡ begun_marks g (val u mu) (val v mv) (flags tf cy) c m.old (bits mk.old) }
+    ensures value { result ≡ begun_out g x y f c m.old (bits mk.old) }
+    ensures m_after { m.new ≡ begun_mem g x y f c m.old (bits mk.old) }
+    ensures mk_after { bits mk.new ≡ begun_marks g x y f c m.old (bits mk.old) }
 {
     match g {
         Begun::Halted(h) => Err(h),
         Begun::Enter(control) => Ok(Done {
             control,
-            flags: Flags { tf, cy },
+            flags: f,
             reg: cpu::NO_REG,
             value: 0,
             mark: false,
         }),
-        Begun::Half(hi, lo) => half_step(hi, lo, u, mu, v, mv, tf, cy, c, m, mk),
+        Begun::Half(hi, lo) => half_step(hi, lo, x, y, f, c, m, mk),
     }
 }

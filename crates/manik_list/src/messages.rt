@@ -17,6 +17,7 @@ fn put_plain(out: &mut [u8], from: usize, word: &[u8]) -> usize {
 }
 
 // The program's name, and then the parts. The room has 256 bytes beside a word of the longest, 4,096.
+// Not by Display: a word of the command line may be no UTF-8, and its bytes from 128 on are written as they are.
 fn put_line(out: &mut [u8; 4352], parts: &[&[u8]]) -> usize {
     let mut at = text::put_all(out, 0, b"manik-list: ");
     for part in parts {

@@ -2,6 +2,7 @@
 ghost use Rattle.std.specs.Prelude.{◌≡◌, ◌≤◌};
 ghost use Rattle.manik_list.specs.Numbers.{lower_of, digit_of, word_of, number_of};
 
+// Not to_ascii_lowercase: the definition lower_of leaves G to Z as they are.
 fn lower(c: u8) -> u8
     ensures { result ≡ lower_of c }
 {
@@ -18,7 +19,8 @@ fn digit(c: u8) -> u32
     text::value(lower(c))
 }
 
-// What does not fit 32 bits is no number, however many digits follow. Rust's from_str_radix would take a sign too.
+// What does not fit 32 bits is no number, however many digits follow. Rust's from_str_radix would take a sign too,
+// and text's `number` promises `digits_read`, of at most 8 bytes, where the definition word_of takes any number of them.
 #[tactic(auto, using(crate::proofs::Laws::number_on, crate::proofs::Laws::number_stop, crate::proofs::Laws::number_none, crate::proofs::Laws::word_none, crate::proofs::Laws::word_first))]
 fn digits(base: u32, word: &[u8]) -> Option<u32>
     requires { (1 ≤ base) × (base ≤ 16) }

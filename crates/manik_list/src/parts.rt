@@ -14,7 +14,8 @@ struct Part {
     next: u32,
 }
 
-// As many lines as there is room for: none is longer than 48 bytes.
+// As many lines as there is room for: none is longer than 48 bytes. How far the next line is, is known only once its instruction is read, so no range
+// goes over the places.
 fn fill(out: &mut [u8], image: &[u8], start: u32, end: usize) -> Part
     requires { (start < end) × (end ≤ 65536) × (48 ≤ length out.old) }
     ensures end_value { listing_of image.now start end ≡ take result.bytes out.new ++ listing_of image.now result.next end }

@@ -12,6 +12,7 @@ pub enum Why {
     Outside,
 }
 
+// No ghost field says start ≤ end: the definition why_of speaks of ranges that are reversed too.
 #[derive(Clone, Copy)]
 pub struct Range {
     pub start: usize,

@@ -23,7 +23,8 @@ use Rattle.marks.specs.Marks.{with}
 use Rattle.marks.specs.Memory.{Marks, mark_at, bad_room}
 use Rattle.marks.specs.declared.Flags.{Flags}
 use Rattle.instruction.specs.Fetch.{guarded, found, fetch_of}
-use Rattle.instruction.specs.Act.{Val, reach_of, outside, loaded_from, act_of}
+use Rattle.instruction.specs.Act.{reach_of, outside, loaded_from, act_of}
+use Rattle.instruction.specs.declared.Val.{Val}
 use Rattle.instruction.specs.Statements.{decoded_at}
 use Rattle.instruction.specs.declared.Reply.{Reply}
 use Rattle.instruction.specs.declared.Halt.{Halt}

@@ -1,4 +1,5 @@
-// Why a line is bad, and where in it: beside the functions of `lines` that decide it.
+// Why a line is bad, and where in it: beside the functions of `lines` that decide it, since the definition `fault_of` has the reason apart from `line_of`, which has the phase.
+// The definitions of specs/Fault.antt take the line, the field and its place one by one, and so do these functions.
 ghost use Rattle.std.specs.Prelude.{◌≡◌, cond, ◌≤◌, ◌<◌};
 ghost use Rattle.script.specs.declared.Reason.{Reason};
 ghost use Rattle.script.specs.Fault.{good, found, ends_word, letters_in, bad_digits, bad_address, decimal_fault, address_fault, bytes_fault, limit_fault, away_fault, count_fault, number_fault, put_fault, mark_fault, first_fault, body_fault, fault_of, early, end_fault, why_of};
@@ -36,7 +37,7 @@ fn found_at(reason: Reason, at: usize, l: &[u8]) -> Option<Fault>
 fn ends_word(c: u8) -> bool
     ensures { result ≡ ends_word c }
 {
-    c < b'a' || b'z' < c
+    !c.is_ascii_lowercase()
 }
 
 fn letters_in(most: usize, l: &[u8]) -> usize

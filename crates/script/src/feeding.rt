@@ -6,8 +6,8 @@ ghost use Rattle.script.specs.Reader.{fed, start_of, kept_by, kept_in, reader_af
 
 use crate::faults::line_fault;
 use crate::lines::whole_line;
-use crate::rooms::{clear, unmark};
-use crate::{Phase, Reader};
+use crate::rooms::zeros;
+use crate::{Memory, Phase, Reader};
 
 fn next_number(n: u64) -> u64
     ensures { result ≡ next_number n }
@@ -24,14 +24,14 @@ fn number_after(p: Phase, n: u64) -> u64
     }
 }
 
-fn end_line(r: Reader, line: &[u8; 45], m: &mut [u8; 16384], k: &mut [u8; 2048]) -> Reader
-    ensures value { result ≡ reader_after (told_by r line.now m.old (bits k.old)) r.number (fault_by r line.now) }
-    ensures m_after { m.new ≡ (told_by r line.now m.old (bits k.old)).mem }
-    ensures k_after { bits k.new ≡ (told_by r line.now m.old (bits k.old)).marks }
+fn end_line(r: Reader, line: &[u8; 45], memory: &mut Memory) -> Reader
+    ensures value { result ≡ reader_after (told_by r line.now memory.old.bytes (bits memory.old.marks)) r.number (fault_by r line.now) }
+    ensures bytes_after { memory.new.bytes ≡ (told_by r line.now memory.old.bytes (bits memory.old.marks)).mem }
+    ensures marks_after { bits memory.new.marks ≡ (told_by r line.now memory.old.bytes (bits memory.old.marks)).marks }
 {
     let l = text::start_part(line, r.used);
     let fault = line_fault(r.phase, r.fault, l);
-    let phase = whole_line(r.phase, l, m, k);
+    let phase = whole_line(r.phase, l, memory);
     Reader {
         phase,
         number: number_after(phase, r.number),
@@ -55,33 +55,28 @@ fn keep_byte(r: Reader, b: u8, line: &mut [u8; 45]) -> Reader
 }
 
 #[tactic(auto, unfolding(crate::specs::Reader::byte_of))]
-fn take_byte(
-    r: Reader,
-    b: u8,
-    line: &mut [u8; 45],
-    m: &mut [u8; 16384],
-    k: &mut [u8; 2048],
-) -> Reader
-    ensures { fed result line.new m.new (bits k.new) ≡ byte_of b (fed r line.old m.old (bits k.old)) }
+fn take_byte(r: Reader, b: u8, line: &mut [u8; 45], memory: &mut Memory) -> Reader
+    ensures { fed result line.new memory.new.bytes (bits memory.new.marks) ≡ byte_of b (fed r line.old memory.old.bytes (bits memory.old.marks)) }
 {
-    if b == 10 {
-        return end_line(r, line, m, k);
+    if b == b'\n' {
+        return end_line(r, line, memory);
     }
     let kept = keep_byte(r, b, line);
     if r.used < 44 {
         return kept;
     }
-    end_line(kept, line, m, k)
+    end_line(kept, line, memory)
 }
 
 // Before the first byte: nothing is known, memory is zero, and none of it is marked.
-pub fn start(m: &mut [u8; 16384], k: &mut [u8; 2048]) -> Reader
+#[tactic(auto, unfolding(crate::specs::Line::unmarked))]
+pub fn start(memory: &mut Memory) -> Reader
     ensures value { result ≡ start_of }
-    ensures m_after { m.new ≡ blank }
-    ensures k_after { bits k.new ≡ unmarked }
+    ensures bytes_after { memory.new.bytes ≡ blank }
+    ensures marks_after { bits memory.new.marks ≡ unmarked }
 {
-    clear(m);
-    unmark(k);
+    memory.bytes = zeros();
+    memory.marks = [0u8; 2048];
     Reader {
         phase: Phase::First,
         number: 1,
@@ -91,18 +86,12 @@ pub fn start(m: &mut [u8; 16384], k: &mut [u8; 2048]) -> Reader
 }
 
 // A part of the input. `line` is room for a line that the part's end cuts.
-pub fn feed(
-    r: Reader,
-    part: &[u8],
-    line: &mut [u8; 45],
-    m: &mut [u8; 16384],
-    k: &mut [u8; 2048],
-) -> Reader
-    ensures { fed result line.new m.new (bits k.new) ≡ feed_of part.now (fed r line.old m.old (bits k.old)) }
+pub fn feed(r: Reader, part: &[u8], line: &mut [u8; 45], memory: &mut Memory) -> Reader
+    ensures { fed result line.new memory.new.bytes (bits memory.new.marks) ≡ feed_of part.now (fed r line.old memory.old.bytes (bits memory.old.marks)) }
 {
     let mut s = r;
     for b in part {
-        s = take_byte(s, *b, line, m, k);
+        s = take_byte(s, *b, line, memory);
     }
     s
 }

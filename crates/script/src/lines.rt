@@ -4,9 +4,10 @@ ghost use Rattle.std.proofs.lemmas.List.Edits.{sets};
 ghost use Rattle.marks.specs.Memory.{bits, put_marks};
 ghost use Rattle.script.specs.Line.{size_of, budget_of, is_even, are_bytes, pairs_of, put_of, count_of, mark_of, first_of, body_of, line_of};
 
-use crate::Phase;
+use crate::{Memory, Phase};
 use word::ByteAddr;
 
+// Two, as the definitions `size_of` and `budget_of` are; each makes a phase of its own.
 fn size_in(r: Option<u32>) -> Phase
     ensures { result ≡ size_of r }
 {
@@ -49,6 +50,7 @@ fn put_byte(m: &mut [u8], at: usize, b: u8)
 fn put_bytes(a: u32, h: &[u8], m: &mut [u8])
     ensures { m.new ≡ sets m.old a (pairs_of h.now) }
 {
+    // By number: it tells the place in memory too, which would be counted beside a pattern of two.
     for i in 0..h.len() / 2 {
         put_byte(m, a as usize + i, text::pair(h[2 * i], h[2 * i + 1]));
     }
@@ -62,14 +64,14 @@ pub fn is_inside(a: u32, c: usize, n: u32) -> bool
 }
 
 #[tactic(auto, unfolding(crate::specs::Line::put_of))]
-fn put_line(r: Option<u32>, h: &[u8], n: u32, m: &mut [u8; 16384], k: &mut [u8; 2048]) -> Phase
-    ensures value { result ≡ (put_of r h.now n m.old (bits k.old)).phase }
-    ensures m_after { m.new ≡ (put_of r h.now n m.old (bits k.old)).mem }
-    ensures k_after { bits k.new ≡ (put_of r h.now n m.old (bits k.old)).marks }
+fn put_line(r: Option<u32>, h: &[u8], n: u32, memory: &mut Memory) -> Phase
+    ensures value { result ≡ (put_of r h.now n memory.old.bytes (bits memory.old.marks)).phase }
+    ensures bytes_after { memory.new.bytes ≡ (put_of r h.now n memory.old.bytes (bits memory.old.marks)).mem }
+    ensures marks_after { bits memory.new.marks ≡ (put_of r h.now n memory.old.bytes (bits memory.old.marks)).marks }
 {
     match r {
         Some(a) if are_bytes(h) && is_inside(a, h.len() / 2, n) => {
-            put_bytes(a, h, m);
+            put_bytes(a, h, &mut memory.bytes);
             Phase::Body(n)
         }
         _ => Phase::Bad,
@@ -77,15 +79,15 @@ fn put_line(r: Option<u32>, h: &[u8], n: u32, m: &mut [u8; 16384], k: &mut [u8; 
 }
 
 #[tactic(auto, unfolding(crate::specs::Line::count_of, marks::specs::Memory::put_marks))]
-fn count_line(a: u32, r: Option<u32>, n: u32, m: &mut [u8; 16384], k: &mut [u8; 2048]) -> Phase
-    ensures value { result ≡ (count_of a r n m.old (bits k.old)).phase }
-    ensures m_after { m.new ≡ (count_of a r n m.old (bits k.old)).mem }
-    ensures k_after { bits k.new ≡ (count_of a r n m.old (bits k.old)).marks }
+fn count_line(a: u32, r: Option<u32>, n: u32, memory: &mut Memory) -> Phase
+    ensures value { result ≡ (count_of a r n memory.old.bytes (bits memory.old.marks)).phase }
+    ensures bytes_after { memory.new.bytes ≡ (count_of a r n memory.old.bytes (bits memory.old.marks)).mem }
+    ensures marks_after { bits memory.new.marks ≡ (count_of a r n memory.old.bytes (bits memory.old.marks)).marks }
 {
     match r {
         Some(0) => Phase::Body(n),
         Some(c) if is_inside(a, c as usize, n) => {
-            marks::memory::set_range(k, ByteAddr(a), c, true);
+            marks::memory::set_range(&mut memory.marks, ByteAddr(a), c, true);
             Phase::Body(n)
         }
         _ => Phase::Bad,
@@ -93,20 +95,14 @@ fn count_line(a: u32, r: Option<u32>, n: u32, m: &mut [u8; 16384], k: &mut [u8; 
 }
 
 #[tactic(auto, unfolding(crate::specs::Line::mark_of))]
-fn mark_line(
-    r: Option<u32>,
-    c: Option<u32>,
-    n: u32,
-    m: &mut [u8; 16384],
-    k: &mut [u8; 2048],
-) -> Phase
-    ensures value { result ≡ (mark_of r c n m.old (bits k.old)).phase }
-    ensures m_after { m.new ≡ (mark_of r c n m.old (bits k.old)).mem }
-    ensures k_after { bits k.new ≡ (mark_of r c n m.old (bits k.old)).marks }
+fn mark_line(r: Option<u32>, c: Option<u32>, n: u32, memory: &mut Memory) -> Phase
+    ensures value { result ≡ (mark_of r c n memory.old.bytes (bits memory.old.marks)).phase }
+    ensures bytes_after { memory.new.bytes ≡ (mark_of r c n memory.old.bytes (bits memory.old.marks)).mem }
+    ensures marks_after { bits memory.new.marks ≡ (mark_of r c n memory.old.bytes (bits memory.old.marks)).marks }
 {
     match r {
         None => Phase::Bad,
-        Some(a) => count_line(a, c, n, m, k),
+        Some(a) => count_line(a, c, n, memory),
     }
 }
 
@@ -121,17 +117,17 @@ fn first_line(l: &[u8]) -> Phase
 }
 
 #[tactic(auto, unfolding(crate::specs::Line::body_of))]
-fn body_line(w: &[u8], r: &[u8], n: u32, m: &mut [u8; 16384], k: &mut [u8; 2048]) -> Phase
-    ensures value { result ≡ (body_of w.now r.now n m.old (bits k.old)).phase }
-    ensures m_after { m.new ≡ (body_of w.now r.now n m.old (bits k.old)).mem }
-    ensures k_after { bits k.new ≡ (body_of w.now r.now n m.old (bits k.old)).marks }
+fn body_line(w: &[u8], r: &[u8], n: u32, memory: &mut Memory) -> Phase
+    ensures value { result ≡ (body_of w.now r.now n memory.old.bytes (bits memory.old.marks)).phase }
+    ensures bytes_after { memory.new.bytes ≡ (body_of w.now r.now n memory.old.bytes (bits memory.old.marks)).mem }
+    ensures marks_after { bits memory.new.marks ≡ (body_of w.now r.now n memory.old.bytes (bits memory.old.marks)).marks }
 {
     if text::is_same(w, b"at") {
-        return put_line(text::address(text::before(r)), text::beyond(r), n, m, k);
+        return put_line(text::address(text::before(r)), text::beyond(r), n, memory);
     }
     if text::is_same(w, b"mark") {
         let c = text::decimal(text::beyond(r));
-        return mark_line(text::address(text::before(r)), c, n, m, k);
+        return mark_line(text::address(text::before(r)), c, n, memory);
     }
     if text::is_same(w, b"run") {
         return budget_in(text::decimal(r), n);
@@ -140,14 +136,14 @@ fn body_line(w: &[u8], r: &[u8], n: u32, m: &mut [u8; 16384], k: &mut [u8; 2048]
 }
 
 #[tactic(auto, unfolding(crate::specs::Line::line_of))]
-pub fn whole_line(p: Phase, l: &[u8], m: &mut [u8; 16384], k: &mut [u8; 2048]) -> Phase
-    ensures value { result ≡ (line_of p l.now m.old (bits k.old)).phase }
-    ensures m_after { m.new ≡ (line_of p l.now m.old (bits k.old)).mem }
-    ensures k_after { bits k.new ≡ (line_of p l.now m.old (bits k.old)).marks }
+pub fn whole_line(p: Phase, l: &[u8], memory: &mut Memory) -> Phase
+    ensures value { result ≡ (line_of p l.now memory.old.bytes (bits memory.old.marks)).phase }
+    ensures bytes_after { memory.new.bytes ≡ (line_of p l.now memory.old.bytes (bits memory.old.marks)).mem }
+    ensures marks_after { bits memory.new.marks ≡ (line_of p l.now memory.old.bytes (bits memory.old.marks)).marks }
 {
     match p {
         Phase::First => first_line(l),
-        Phase::Body(n) => body_line(text::before(l), text::beyond(l), n, m, k),
+        Phase::Body(n) => body_line(text::before(l), text::beyond(l), n, memory),
         Phase::Done(_, _) | Phase::Bad => Phase::Bad,
     }
 }

@@ -9,7 +9,7 @@ ghost use Rattle.script.specs.Reader.{fed, start_of, feed_of};
 ghost use Rattle.text.specs.Pages.{page, write_on};
 ghost use Rattle.answer.specs.Answer.{answer_by};
 
-use script::{Phase, Reader};
+use script::{Memory, Phase, Reader};
 use std::io;
 
 // Where the reader is, the line that a part's end cuts, and memory with its marks.
@@ -17,38 +17,32 @@ use std::io;
 pub struct Session {
     pub reader: Reader,
     pub line: [u8; 45],
-    pub memory: [u8; 16384],
-    pub marks: [u8; 2048],
+    pub memory: Memory,
 }
 
 impl Session {
     // Before the first byte.
     pub fn start() -> Session
         ensures reader { result.reader ≡ start_of }
-        ensures memory { result.memory ≡ blank }
-        ensures marks { bits result.marks ≡ unmarked }
+        ensures memory { result.memory.bytes ≡ blank }
+        ensures marks { bits result.memory.marks ≡ unmarked }
     {
-        let mut memory = [0u8; 16384];
-        let mut marks = [0u8; 2048];
-        let reader = script::start(&mut memory, &mut marks);
+        let mut memory = Memory {
+            bytes: [0; 16384],
+            marks: [0; 2048],
+        };
+        let reader = script::start(&mut memory);
         Session {
             reader,
             line: [0; 45],
             memory,
-            marks,
         }
     }
 
     pub fn feed(&mut self, part: &[u8])
-        ensures { fed self.new.reader self.new.line self.new.memory (bits self.new.marks) ≡ feed_of part.now (fed self.old.reader self.old.line self.old.memory (bits self.old.marks)) }
+        ensures { fed self.new.reader self.new.line self.new.memory.bytes (bits self.new.memory.marks) ≡ feed_of part.now (fed self.old.reader self.old.line self.old.memory.bytes (bits self.old.memory.marks)) }
     {
-        let reader = script::feed(
-            self.reader,
-            part,
-            &mut self.line,
-            &mut self.memory,
-            &mut self.marks,
-        );
+        let reader = script::feed(self.reader, part, &mut self.line, &mut self.memory);
         self.reader = reader;
     }
 
@@ -61,9 +55,9 @@ impl Session {
 
     // After the last part: the text that the program writes, from the start of `out`, and its length.
     pub fn answer(&mut self, out: &mut [u8; 256]) -> usize
-        ensures { page out.new result ≡ write_on (answer_by self.old.reader self.old.memory (bits self.old.marks)).text (page out.old 0) }
+        ensures { page out.new result ≡ write_on (answer_by self.old.reader self.old.memory.bytes (bits self.old.memory.marks)).text (page out.old 0) }
     {
-        answer::answer(self.reader, &mut self.memory, &mut self.marks, out)
+        answer::answer(self.reader, &mut self.memory, out)
     }
 
     // The text's length is at most that of its room (`fits` of crates/answer/proofs/Theorems.antt), so nothing is cut.

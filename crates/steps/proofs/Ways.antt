@@ -31,7 +31,8 @@ use Rattle.marks.specs.declared.Taint.{Taint}
 use Rattle.marks.proofs.Places.{puts_other, puts_same, room_has}
 use Rattle.instruction.specs.Reply.{number_of}
 use Rattle.instruction.specs.Fetch.{half_at, after_half, fetch_of}
-use Rattle.instruction.specs.Act.{Val, reach_of, outside, loaded_from, loaded_mark, act_of}
+use Rattle.instruction.specs.Act.{reach_of, outside, loaded_from, loaded_mark, act_of}
+use Rattle.instruction.specs.declared.Val.{Val}
 use Rattle.instruction.specs.Parts.{decoded_to}
 use Rattle.instruction.specs.Statements.{decoded_at, Is, short, long}
 use Rattle.instruction.specs.declared.Halt.{Halt}

@@ -44,6 +44,7 @@ pub fn beyond(l: &[u8]) -> &[u8]
     end_part(l, tab_in(l) + 1)
 }
 
+// A function and not `==` where words are compared: the definitions `first_of` and `body_of` (crate script) do it by `same_of`, to which `same_is` takes `==` here once for all.
 #[tactic(auto, using(crate::proofs::Laws::same_is))]
 pub fn is_same(a: &[u8], b: &[u8]) -> bool
     ensures { result ≡ same_of a.now b.now }
@@ -53,6 +54,7 @@ pub fn is_same(a: &[u8], b: &[u8]) -> bool
 
 // ---- digits read
 
+// 16 for any other byte, and no Option: the definition `value_of` has it so, which `digits_read` and `are_hex` compare with a base and `pair_of` reckons with.
 #[tactic(auto, using(std::proofs::lemmas::Bool::Decides::nat_tests), unfolding(crate::specs::Digits::value_of))]
 pub fn value(c: u8) -> u32
     ensures { (result ≡ value_of c) × (result ≤ 16) }
@@ -152,7 +154,7 @@ pub fn last_digit(table: &[u8; 16], n: u32) -> u8
     table[(n % 16) as usize]
 }
 
-// As many digits as there are places, from the last to the first.
+// As many digits as there are places, from the last to the first. By index: after a loop over `out.iter_mut().rev()` a proof is given nothing of what `out` holds.
 fn spell(base: u64, n: u64, out: &mut [u8])
     requires { (1 < base) × (base ≤ 16) }
     ensures { out.new ≡ digits_of base (length out.old) n }
@@ -172,6 +174,7 @@ fn hex_digits<const N: usize>(n: u64) -> [u8; N]
     digits
 }
 
+// Two of fixed length: the definitions `hex_text` and `half_text`, which listings and answers name, are of 8 and 4 digits; of `hex_digits`, each caller would write both the length and the cast.
 pub fn hex(n: u32) -> [u8; 8]
     ensures { result ≡ hex_text n }
 {

@@ -1,4 +1,5 @@
-// Text written into a lent room, from a place on; each function answers where the next byte goes. The libraries have no heap, so no String is filled.
+// Text written into a lent room, from a place on; each function answers where the next byte goes. The libraries have no heap, so no String is filled;
+// and a Display's `fmt` answers no place, while the definitions `page` and `write_on`, by which theorems as `calls_answer` (crate answer) speak, are of the room and the place.
 ghost use Rattle.std.specs.Prelude.{◌≡◌};
 ghost use Rattle.text.specs.Digits.{hex_text, half_text, decimal_text, signed_text};
 ghost use Rattle.text.specs.Pages.{page, one_on, write_on};

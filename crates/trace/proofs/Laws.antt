@@ -9,7 +9,8 @@ use Rattle.cpu.specs.Exec.{sources_of}
 use Rattle.cpu.specs.declared.Control.{Control}
 use Rattle.marks.specs.declared.Flags.{Flags}
 use Rattle.marks.specs.Memory.{Marks}
-use Rattle.instruction.specs.Act.{Val, reach_of, act_of}
+use Rattle.instruction.specs.Act.{reach_of, act_of}
+use Rattle.instruction.specs.declared.Val.{Val}
 use Rattle.instruction.specs.declared.Halt.{Halt}
 use Rattle.instruction.specs.declared.Act.{Act}
 use Rattle.machine.specs.State.{value_at}

@@ -6,12 +6,13 @@ ghost use Rattle.cpu.specs.Control.{pc_of};
 ghost use Rattle.marks.specs.Memory.{bits};
 ghost use Rattle.instruction.specs.Fetch.{fetch_of};
 ghost use Rattle.instruction.specs.Act.{reach_of};
+ghost use Rattle.machine.specs.State.{value_at};
 ghost use Rattle.machine.specs.Step.{data_of, instr_step, fetch_step, step_of};
 ghost use Rattle.trace.specs.Seen.{seen_in};
 ghost use Rattle.trace.specs.Parts.{entry_line, seen_halt, seen_act};
 
 use cpu::{Control, Entry};
-use instruction::{Act, Halt, Reach};
+use instruction::{Act, Halt, Reach, Val};
 use isa::Instr;
 use machine::{Event, Line, State};
 use word::{ByteAddr, Width};
@@ -72,17 +73,24 @@ fn show_act(a: Act, address: Option<ByteAddr>, c: Control) -> Option<Line>
     }
 }
 
+fn value_at(s: State, i: u32) -> Val
+    ensures { result ≡ value_at s i }
+{
+    Val {
+        value: get(s.regs, i, 0),
+        mark: get(s.marks, i, false),
+    }
+}
+
 fn show_instr(i: Instr, s: State, m: &[u8], mk: &[u8]) -> Option<Line>
     ensures { result ≡ seen_in (instr_step i s m.now (bits mk.now)) }
 {
     let o = cpu::sources_of(i);
     let c = s.control;
-    let u = get(s.regs, o.first, 0);
-    let mu = get(s.marks, o.first, false);
-    let v = get(s.regs, o.second, 0);
-    let mv = get(s.marks, o.second, false);
-    let a = instruction::classes::act_on(i, u, mu, v, mv, s.flags.tf, s.flags.cy, c, m, mk);
-    show_act(a, address_of(i, v, c), c)
+    let x = value_at(s, o.first);
+    let y = value_at(s, o.second);
+    let a = instruction::classes::act_on(i, x, y, s.flags, c, m, mk);
+    show_act(a, address_of(i, y.value, c), c)
 }
 
 fn show_fetch(s: State, m: &[u8], mk: &[u8]) -> Option<Line>

@@ -1,5 +1,5 @@
 // A case of docs/CORPUS.md: its sizes, and a machine in rooms of the largest.
-ghost use Rattle.std.specs.Prelude.{◌≤◌, ◌<◌, length};
+ghost use Rattle.std.specs.Prelude.{◌≤◌};
 
 use crate::digests::folded_line;
 use machine::Line;
@@ -8,7 +8,8 @@ use std::io;
 use std::io::Read;
 use word::{ByteAddr, Width};
 
-// What is larger than its room is cut: a case that keeps to the limits of docs/CORPUS.md is not.
+// What is larger than its room is cut: a case that keeps to the limits of docs/CORPUS.md is not. The rooms are of fixed length, since a proved program has
+// no heap (docs/DECISIONS.md).
 #[derive(Clone, Copy)]
 pub struct Sizes {
     pub memory: usize,
@@ -73,24 +74,22 @@ impl Machine {
     }
 
     // The line of a step, and then the step itself, as a run with a budget of 1.
-    fn step(&mut self, sizes: Sizes, tape: &[u8]) -> Option<Line>
-        requires { 0 < length tape.now }
-    {
+    fn step(&mut self, sizes: Sizes, external: u8) -> Option<Line> {
         let seen = trace::show(
-            u32::from(tape[0]),
+            u32::from(external),
             abi::state_at(&self.record),
             &self.memory[..sizes.memory],
             &self.marks[..sizes.marks],
         );
-        let _ = self.run(sizes, tape, 1);
+        let _ = self.run(sizes, &[external], 1);
         seen
     }
 
     // The digest of a run's trace, step by step from where it began.
     pub fn trace(&mut self, sizes: Sizes, tape: &[u8], steps: u64) -> u64 {
         let mut d: u64 = 1;
-        for n in 0..tape.len().min(steps as usize) {
-            if let Some(line) = self.step(sizes, &tape[n..]) {
+        for external in tape.iter().take(steps as usize) {
+            if let Some(line) = self.step(sizes, *external) {
                 d = folded_line(d, line);
             }
         }

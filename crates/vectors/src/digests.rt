@@ -12,7 +12,7 @@ fn folded_word(d: u64, x: u32) -> u64 {
     fold_bytes(d, &x.to_be_bytes())
 }
 
-// A step's line folds in eleven bytes.
+// A step's line folds in eleven bytes. A bus error folds in 0, as docs/CORPUS.md has it, where `detail_of` of abi_show says 15 or 14.
 fn folded_entry(d: u64, e: Entry) -> u64 {
     let (kind, n) = match e {
         Entry::Nothing => (b'-', 0),

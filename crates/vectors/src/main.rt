@@ -45,7 +45,8 @@ impl Rooms {
         write_line(rt, &self.first, sizes, reply, steps, trace)
     }
 
-    // At most 100,000 cases, so that the loop ends.
+    // At most 100,000 cases, so that the loop ends. A loop for vectors_asm and examples too would take the room that is read first, how many
+    // bytes it needs and a closure that borrows the other rooms: no shorter than this one.
     fn answer_all(&mut self, rt: &impl Print, input: &mut impl Read) -> io::Result<()> {
         for _ in 0..100000 {
             if read_full(input, &mut self.first.record)? < 160 {

@@ -30,7 +30,8 @@ impl Rooms {
         Ok(true)
     }
 
-    // At most 100,000 cases, so that the loop ends.
+    // At most 100,000 cases, so that the loop ends. A loop for vectors and examples too would take a closure for the end that only this program
+    // has, a case beyond the limits: no shorter than this one.
     fn answer_all(&mut self, rt: &impl Print, input: &mut impl Read) -> io::Result<()> {
         for _ in 0..100000 {
             if read_full(input, &mut self.sizes)? < 16 || !self.answer_case(rt, input)? {

@@ -14,16 +14,14 @@ use crate::words::{extensions, loads, results, stores, sums};
 use std::io;
 
 fn mnemonic_lines(rt: &impl Print, t: &[Tally; MNEMONICS]) -> io::Result<()> {
-    for (name, n) in NAMES[..NONE].iter().zip(t) {
+    for n in &t[..NONE] {
         println!(rt;
-            "{name}\t{}\t{}\t{}\t{}\t{}",
-            n.pairs, n.pairs_digest, n.with_bits, n.without_bits, n.digest
+            "{}\t{}\t{}\t{}\t{}\t{}",
+            n.name, n.pairs, n.pairs_digest, n.with_bits, n.without_bits, n.digest
         )?;
     }
-    println!(rt;
-        "{}\t{}\t{}",
-        NAMES[NONE], t[NONE].pairs, t[NONE].pairs_digest
-    )
+    let none = &t[NONE];
+    println!(rt; "{}\t{}\t{}", none.name, none.pairs, none.pairs_digest)
 }
 
 fn word_line(rt: &impl Print, name: &str, count: u64, digest: u64) -> io::Result<()> {
@@ -31,7 +29,7 @@ fn word_line(rt: &impl Print, name: &str, count: u64, digest: u64) -> io::Result
 }
 
 fn main(rt: HostRuntime) -> io::Result<()> {
-    let mut t = [Tally::EMPTY; MNEMONICS];
+    let mut t = NAMES.map(|name| Tally::new(name));
     decode_all(&mut t);
     encode_all(&mut t);
     mnemonic_lines(&rt, &t)?;

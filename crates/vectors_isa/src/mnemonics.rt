@@ -7,6 +7,7 @@ use word::HalfDisp;
 // The mnemonics are numbered in the order of their first bytes; the last number is for what is no instruction.
 pub const MNEMONICS: usize = 60;
 
+// No Option: what is no instruction is counted and written as a row of the table too, so each None would be made this row's number again.
 pub const NONE: usize = 59;
 
 pub const NAMES: [&str; MNEMONICS] = [
@@ -37,24 +38,19 @@ pub fn mnemonic(first: u16) -> usize
 // Those that an instruction lacks are 0.
 pub fn operands(i: Instr) -> [u32; 3] {
     match i {
-        Instr::Alu(_, d, b) => [d, b, 0],
-        Instr::ShiftImm(_, d, n) => [d, n, 0],
-        Instr::Cmp(_, d, b) => [d, b, 0],
-        Instr::CmpImm(_, d, n) => [d, n, 0],
-        Instr::Cond(_, _, d, b) => [d, b, 0],
-        Instr::CondImm(_, d, n) => [d, n, 0],
-        Instr::Ldrpc(d, n) => [d, n, 0],
-        Instr::Imm(_, d, n) => [d, n, 0],
-        Instr::Load(_, d, n, b) => [d, n, b],
-        Instr::Store(_, d, n, b) => [d, n, b],
-        Instr::Mfsfr(d, n) => [d, n, 0],
-        Instr::Mtsfr(n, b) => [n, b, 0],
-        Instr::Jr(b) => [b, 0, 0],
-        Instr::Jrl(b) => [b, 0, 0],
-        Instr::Jsfr(n) => [n, 0, 0],
-        Instr::Swint(n) => [n, 0, 0],
-        Instr::ShortJump(_, d) => [d.0, 0, 0],
-        Instr::LongJump(_, d) => [d.0, 0, 0],
+        Instr::Load(_, a, b, c) | Instr::Store(_, a, b, c) => [a, b, c],
+        Instr::Alu(_, a, b)
+        | Instr::ShiftImm(_, a, b)
+        | Instr::Cmp(_, a, b)
+        | Instr::CmpImm(_, a, b)
+        | Instr::Cond(_, _, a, b)
+        | Instr::CondImm(_, a, b)
+        | Instr::Ldrpc(a, b)
+        | Instr::Imm(_, a, b)
+        | Instr::Mfsfr(a, b)
+        | Instr::Mtsfr(a, b) => [a, b, 0],
+        Instr::Jr(a) | Instr::Jrl(a) | Instr::Jsfr(a) | Instr::Swint(a) => [a, 0, 0],
+        Instr::ShortJump(_, d) | Instr::LongJump(_, d) => [d.0, 0, 0],
     }
 }
 

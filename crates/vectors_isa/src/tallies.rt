@@ -5,6 +5,7 @@ use isa::{Encoded, Instr};
 // Digests start at 1.
 #[derive(Clone, Copy)]
 pub struct Tally {
+    pub name: &'static str,
     // pairs of halves that decoded to the mnemonic, and their digest
     pub pairs: u64,
     pub pairs_digest: u64,
@@ -15,13 +16,16 @@ pub struct Tally {
 }
 
 impl Tally {
-    pub const EMPTY: Tally = Tally {
-        pairs: 0,
-        pairs_digest: 1,
-        with_bits: 0,
-        without_bits: 0,
-        digest: 1,
-    };
+    pub fn new(name: &'static str) -> Tally {
+        Tally {
+            name,
+            pairs: 0,
+            pairs_digest: 1,
+            with_bits: 0,
+            without_bits: 0,
+            digest: 1,
+        }
+    }
 
     // A pair of halves: all that is counted of one that is no instruction.
     pub fn add_pair(&mut self, first: u16, second: u16) {

@@ -1,2 +1,2 @@
-// Theorems on the assembler: what assembles decodes to what was written, a listing assembles to its bytes.
+// Theorems on the assembler, in the words of the written form: what assembles decodes to what was written, and which refusal a text gets.
 #![tactic(auto)]

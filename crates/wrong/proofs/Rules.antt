@@ -8,7 +8,8 @@ use mathlib.Core.List.{List}
 use Rattle.cpu.specs.declared.Control.{Control}
 use Rattle.marks.specs.declared.Flags.{Flags}
 use Rattle.marks.specs.Memory.{Marks}
-use Rattle.instruction.specs.Act.{Val, act_of}
+use Rattle.instruction.specs.Act.{act_of}
+use Rattle.instruction.specs.declared.Val.{Val}
 use Rattle.instruction.specs.declared.Reach.{Reach}
 use Rattle.instruction.specs.declared.Act.{Act}
 use Rattle.machine.specs.Step.{Stepped, stopped, completed, marked_to, act_step, instr_step, fetch_step, event_step, step_of, after}

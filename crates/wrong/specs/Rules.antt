@@ -15,7 +15,8 @@ use Rattle.marks.specs.Memory.{Marks, mark_all}
 use Rattle.marks.specs.declared.Flags.{Flags}
 use Rattle.marks.specs.declared.Taint.{Taint}
 use Rattle.instruction.specs.Fetch.{fetch_of}
-use Rattle.instruction.specs.Act.{Val, reach_of, outside, loaded_from, loaded_mark}
+use Rattle.instruction.specs.Act.{reach_of, outside, loaded_from, loaded_mark}
+use Rattle.instruction.specs.declared.Val.{Val}
 use Rattle.instruction.specs.declared.Reply.{Reply}
 use Rattle.instruction.specs.declared.Halt.{Halt}
 use Rattle.instruction.specs.declared.Reach.{Reach}

@@ -5,4 +5,4 @@ use mathlib.Core.Path.{◌≡◌}
 use Rattle.script.proofs.feeding.feed.Given as goal
 
 abbrev pub invariant-loop-b : goal.invariant-loop-b
-invariant-loop-b l = feed_of (drop l.b-index l.part) (fed l.s l.line l.m (bits l.k)) ≡ feed_of l.part (fed l.initial.s l.initial.line l.initial.m (bits l.initial.k))
+invariant-loop-b l = feed_of (drop l.b-index l.part) (fed l.s l.line l.memory.bytes (bits l.memory.marks)) ≡ feed_of l.part (fed l.initial.s l.initial.line l.initial.memory.bytes (bits l.initial.memory.marks))

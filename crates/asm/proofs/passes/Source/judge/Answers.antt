@@ -6,9 +6,11 @@ use native.Mathlib.Omega.{arith}
 use Rattle.word.specs.declared.ByteAddr.{ByteAddr}
 use Rattle.expr.specs.Expr.{Labels, labels_in}
 use Rattle.forms.specs.Parts.{first_line}
+use Rattle.forms.specs.declared.Shape.{Shape}
 use Rattle.forms.proofs.Cuts.{line_next}
 use Rattle.asm.specs.declared.Refusal.{Refusal}
 use Rattle.asm.specs.Parts.{check_sure}
+use Rattle.asm.specs.Assemble.{bytes_for}
 use Rattle.asm.proofs.Laws.{fine_room, verdict_on, verdict_stops, verdict_end, first_known, rest_known, sure_check, keys_with}
 use Rattle.asm.proofs.passes.Source.judge.Goals as goal
 
@@ -26,7 +28,7 @@ overflow_add-to c =
     let d = c.check.ensures ∙ ap₂ (λ (x : ByteAddr) (y : Result Unit Refusal). check_sure c.args.sure (labels_in c.args.labels.now) c.loop-at.seen.keys x y c.what-w.result (first_line l.text.now)) c.address_of-a.ensures c.room_check-room.ensures ∙ sure_check c.args.sure (labels_in c.args.labels.now) c.loop-at.seen.keys _ _ c.what-w.result (first_line l.text.now) (λ e. first_known _ _ (first_line l.text.now) c.what-w.result g.lines c.what-w.ensures (c.loop-at.invariant.known e)) in
     let h = fine_room _ _ _ _ _ _ _ _ (sym d ∙ c.in_default.is) in
     let f = c.ranges.end in
-    let k : c.loop-at.to + c.bytes_for-n.result < 2 ^ 64 = omega arith in
+    let k : c.loop-at.to + c.shape_of-n.result.size < 2 ^ 64 = omega arith in
     record { fits = k }
 
 pub overflow_add-at : goal.overflow_add-at
@@ -48,6 +50,7 @@ overflow_add-at-in-loop-at c =
     record { fits = h }
 
 pub loop-at-preserved : goal.loop-at-preserved
+unfolding bytes_for
 loop-at-preserved c =
     let l = c.new-line.result in
     let g = line_next c.args.self.now.text.now l.text.now c.loop-at.at l.cut c.loop-at-test.true (c.new-line.ensures ∙ c.end_part.ensures) l.is_cut in
@@ -58,17 +61,18 @@ loop-at-preserved c =
       within = g.within;
       room = fine_room _ _ _ _ _ _ _ _ (sym d ∙ c.in_default.is);
       counted = omega arith;
-      verdict = verdict_on _ _ _ _ _ _ _ _ _ _ _ _ _ _ g.lines c.what-w.ensures c.bytes_for-n.ensures d c.in_default.is c.label.ensures (ap (λ (t : Labels). t.keys) c.add.ensures ∙ keys_with _ _ _) (add-one _) ∙ c.loop-at.invariant.verdict;
+      verdict = verdict_on _ _ _ _ _ _ _ _ _ _ _ _ _ _ g.lines c.what-w.ensures (ap (λ (x : Shape). x.size) c.shape_of-n.ensures) d c.in_default.is c.label.ensures (ap (λ (t : Labels). t.keys) c.add.ensures ∙ keys_with _ _ _) (add-one _) ∙ c.loop-at.invariant.verdict;
       fits = c.loop-at.invariant.fits;
       known = λ e. rest_known _ _ _ _ g.lines c.what-w.ensures (c.loop-at.invariant.known e);
     }
 
 pub returns-in-Err : goal.returns-in-Err
+unfolding bytes_for
 returns-in-Err c =
     let l = c.new-line.result in
     let g = line_next c.args.self.now.text.now l.text.now c.loop-at.at l.cut c.loop-at-test.true (c.new-line.ensures ∙ c.end_part.ensures) l.is_cut in
     let d = c.check.ensures ∙ ap₂ (λ (x : ByteAddr) (y : Result Unit Refusal). check_sure c.args.sure (labels_in c.args.labels.now) c.loop-at.seen.keys x y c.what-w.result (first_line l.text.now)) c.address_of-a.ensures c.room_check-room.ensures ∙ sure_check c.args.sure (labels_in c.args.labels.now) c.loop-at.seen.keys _ _ c.what-w.result (first_line l.text.now) (λ e. first_known _ _ (first_line l.text.now) c.what-w.result g.lines c.what-w.ensures (c.loop-at.invariant.known e)) in
-    verdict_stops _ _ _ _ _ _ _ _ _ _ _ _ _ g.lines c.what-w.ensures c.bytes_for-n.ensures d c.in-Err.is (add-one _) ∙ c.loop-at.invariant.verdict
+    verdict_stops _ _ _ _ _ _ _ _ _ _ _ _ _ g.lines c.what-w.ensures (ap (λ (x : Shape). x.size) c.shape_of-n.ensures) d c.in-Err.is (add-one _) ∙ c.loop-at.invariant.verdict
 
 pub returns : goal.returns
 returns c = sym (verdict_end c.args.self.now.text.now c.loop-at.at c.loop-at-test.false _ _ _ _ _) ∙ c.loop-at.invariant.verdict

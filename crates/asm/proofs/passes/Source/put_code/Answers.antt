@@ -1,8 +1,10 @@
 use Prim.Native.Nat.{◌+◌, ◌^◌, ◌<◌}
-use mathlib.Core.Path.{sym, ◌∙◌}
+use mathlib.Core.Path.{sym, ap, ◌∙◌}
 use native.Mathlib.Omega.{arith}
 use borrow.Author.Rules.{rules}
+use Rattle.forms.specs.declared.Shape.{Shape}
 use Rattle.forms.proofs.Cuts.{line_next}
+use Rattle.asm.specs.Assemble.{bytes_for}
 use Rattle.asm.proofs.Laws.{code_on, code_end}
 use Rattle.asm.proofs.passes.Source.put_code.Goals as goal
 
@@ -25,13 +27,14 @@ overflow_add-at-in-loop-at c =
     record { fits = h }
 
 pub loop-at-preserved : goal.loop-at-preserved
+unfolding bytes_for
 loop-at-preserved c =
     let l = c.new-line.result in
     let g = line_next c.args.self.now.text.now l.text.now c.loop-at.at l.cut c.loop-at-test.true (c.new-line.ensures ∙ c.end_part.ensures) l.is_cut in
     record {
       within = g.within;
       same = search rules;
-      written = code_on _ _ _ _ _ _ _ _ _ _ _ g.lines c.what-w.ensures c.bytes_for.ensures c.byte_sum-a.ensures c.encoded.ensures c.put_bits-to.ensures ∙ c.loop-at.invariant.written;
+      written = code_on _ _ _ _ _ _ _ _ _ _ _ g.lines c.what-w.ensures (ap (λ (x : Shape). x.size) c.shape_of.ensures) c.byte_sum-a.ensures c.encoded.ensures c.put_bits-to.ensures ∙ c.loop-at.invariant.written;
       fits = c.loop-at.invariant.fits;
     }
 
