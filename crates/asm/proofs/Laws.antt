@@ -3,7 +3,7 @@
 use Rattle.std.specs.Prelude.{Err, Ok, Result, Option, Some, None, find, map}
 use Rattle.std.specs.Option.{option_map, is_some, ok_or}
 use Prim.Native.Nat.compare.{suc-suc}
-use Prim.Native.Nat.{ℕ, suc, ◌+◌, ◌%◌, ◌<◌, ◌≤◌}
+use Prim.Native.Nat.{ℕ, suc, ◌+◌, ◌%◌, ◌^◌, ◌<◌, ◌≤◌}
 use mathlib.Core.Path.{◌≡◌, refl, sym, ap, ap₂, ◌∙◌}
 use mathlib.Core.Bool.{Bool, true, false, cond, not, ◌&&◌, ◌||◌}
 use mathlib.Core.List.{List, [], ◌∷◌, ◌++◌}
@@ -27,6 +27,9 @@ use Rattle.forms.specs.declared.Sort.{Sort}
 use Rattle.forms.specs.declared.What.{What}
 use Rattle.asm.specs.declared.Refusal.{Refusal}
 use Rattle.asm.specs.Assemble.{Assembled}
+use Rattle.forms.specs.declared.Cut.{Cut}
+use Rattle.forms.specs.Parts.{cut_of}
+use Rattle.forms.proofs.Cuts.{line_next}
 use Rattle.forms.specs.Form.{body_of, lines_of, what_in, shape_of, is_known_as, is_known}
 use Rattle.asm.specs.Parts.{takes_sum, all_known, check_sure}
 use Rattle.asm.specs.Assemble.{line_of, end_of, is_set, has_room, is_new, with_name, with_label, label_for, bytes_for, labels_of, address_of, label_in, sum_at, line_value, line_bits, before, refused_if, label_check, fit_check, value_check, line_check, room_check, verdict_of, line_bytes, code_of, is_outside}
@@ -277,3 +280,11 @@ or_right false b e = e
 
 pub not_outside : (s n : ℕ) → is_outside s n ≡ false → s ≤ n
 not_outside s n e = ltb-false n s (or_right (eqb (s % 2) 1) (ltb n s) e)
+
+-- the bytes of a line, and the place of the next one, are numbers of 64 bits where the text's length is
+pub line_fits : (x s : List ℕ) (i : ℕ) (c : Cut) → i < length x → s ≡ drop i x → c ≡ cut_of s → length x < 2 ^ 64
+    → (c.end + 1 < 2 ^ 64) × (i + (c.end + 1) < 2 ^ 64)
+line_fits x s i c h e f k =
+    let g = line_next x s i c h e f in
+    let w = g.within in
+    (omega arith, omega arith)

@@ -1,7 +1,7 @@
 // The small program on one input: bytes taken in parts of any size, and what is answered at the end.
 #![tactic(auto)]
 
-ghost use Rattle.std.specs.Prelude.{◌≡◌, ◌↔◌, IsTrue};
+ghost use Rattle.std.specs.Prelude.{◌≡◌, ◌↔◌, IsTrue, replicate};
 ghost use Rattle.marks.specs.Memory.{bits};
 ghost use Rattle.script.specs.declared.Phase.{Phase};
 ghost use Rattle.script.specs.Line.{blank, unmarked};
@@ -24,6 +24,7 @@ impl Session {
     // Before the first byte.
     pub fn start() -> Session
         ensures reader { result.reader ≡ start_of }
+        ensures line { result.line ≡ replicate 45 0 }
         ensures memory { result.memory.bytes ≡ blank }
         ensures marks { bits result.memory.marks ≡ unmarked }
     {
@@ -55,7 +56,11 @@ impl Session {
 
     // After the last part: the text that the program writes, from the start of `out`, and its length.
     pub fn answer(&mut self, out: &mut [u8; 256]) -> usize
-        ensures { page out.new result ≡ write_on (answer_by self.old.reader self.old.memory.bytes (bits self.old.memory.marks)).text (page out.old 0) }
+        ensures text { page out.new result ≡ write_on (answer_by self.old.reader self.old.memory.bytes (bits self.old.memory.marks)).text (page out.old 0) }
+        ensures reader_after { self.new.reader ≡ self.old.reader }
+        ensures line_after { self.new.line ≡ self.old.line }
+        ensures bytes_after { self.new.memory.bytes ≡ (answer_by self.old.reader self.old.memory.bytes (bits self.old.memory.marks)).mem }
+        ensures marks_after { bits self.new.memory.marks ≡ (answer_by self.old.reader self.old.memory.bytes (bits self.old.memory.marks)).marks }
     {
         answer::answer(self.reader, &mut self.memory, out)
     }

@@ -11,7 +11,7 @@ use Rattle.forms.proofs.Cuts.{line_next}
 use Rattle.asm.specs.declared.Refusal.{Refusal}
 use Rattle.asm.specs.Parts.{check_sure}
 use Rattle.asm.specs.Assemble.{bytes_for}
-use Rattle.asm.proofs.Laws.{fine_room, verdict_on, verdict_stops, verdict_end, first_known, rest_known, sure_check, keys_with}
+use Rattle.asm.proofs.Laws.{line_fits, fine_room, verdict_on, verdict_stops, verdict_end, first_known, rest_known, sure_check, keys_with}
 use Rattle.asm.proofs.passes.Source.judge.Goals as goal
 
 pub overflow_add-lines : goal.overflow_add-lines
@@ -32,22 +32,10 @@ overflow_add-to c =
     record { fits = k }
 
 pub overflow_add-at : goal.overflow_add-at
-overflow_add-at c =
-    let l = c.new-line.result in
-    let g = line_next c.args.self.now.text.now l.text.now c.loop-at.at l.cut c.loop-at-test.true (c.new-line.ensures ∙ c.end_part.ensures) l.is_cut in
-    let k = c.loop-at.invariant.fits in
-    let w = g.within in
-    let h : l.cut.end + 1 < 2 ^ 64 = omega arith in
-    record { fits = h }
+overflow_add-at c = record { fits = (line_fits c.args.self.now.text.now c.new-line.result.text.now c.loop-at.at c.new-line.result.cut c.loop-at-test.true (c.new-line.ensures ∙ c.end_part.ensures) c.new-line.result.is_cut c.loop-at.invariant.fits).0 }
 
 pub overflow_add-at-in-loop-at : goal.overflow_add-at-in-loop-at
-overflow_add-at-in-loop-at c =
-    let l = c.new-line.result in
-    let g = line_next c.args.self.now.text.now l.text.now c.loop-at.at l.cut c.loop-at-test.true (c.new-line.ensures ∙ c.end_part.ensures) l.is_cut in
-    let k = c.loop-at.invariant.fits in
-    let w = g.within in
-    let h : c.loop-at.at + (l.cut.end + 1) < 2 ^ 64 = omega arith in
-    record { fits = h }
+overflow_add-at-in-loop-at c = record { fits = (line_fits c.args.self.now.text.now c.new-line.result.text.now c.loop-at.at c.new-line.result.cut c.loop-at-test.true (c.new-line.ensures ∙ c.end_part.ensures) c.new-line.result.is_cut c.loop-at.invariant.fits).1 }
 
 pub loop-at-preserved : goal.loop-at-preserved
 unfolding bytes_for
