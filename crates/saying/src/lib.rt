@@ -21,7 +21,7 @@ fn words(said: &[u8]) -> &[u8]
     }
 }
 
-// A line: what failed, and why.
+// A line: what failed, and why. Each part is tried, whatever became of the one before it.
 fn write_failure<W: Write>(to: &mut W, what: &[u8], e: Error) -> io::Result<()>
     ensures { OnOk result (TellsFailure (W.contents to.old) (W.contents to.new) what.now) }
 {
@@ -29,10 +29,14 @@ fn write_failure<W: Write>(to: &mut W, what: &[u8], e: Error) -> io::Result<()>
     let _ = write!(said, "{e}");
     let n = said.position() as usize;
     let why = words(text::start_part(said.get_ref(), n));
-    to.write_all(what)?;
-    to.write_all(b": ")?;
-    to.write_all(why)?;
-    to.write_all(b"\n")?;
+    let told = to.write_all(what);
+    let parted = to.write_all(b": ");
+    let reasoned = to.write_all(why);
+    let ended = to.write_all(b"\n");
+    told?;
+    parted?;
+    reasoned?;
+    ended?;
     Ok(())
 }
 

@@ -14,4 +14,4 @@ unfolding assembled_of verdict_in assembled_with
 returns c =
     rw (← c.is_outside.ensures, c.if-is_outside.false)
     (c.assemble_with.ensures
-    ∙ ap (λ (t : Labels). assembled_with t (lines_of c.args.text.now) c.args.start c.args.image.now) (c.labels.ensures ∙ c.collect-found.ensures.labels_value))
+    ∙ ap (λ (t : Labels). assembled_with t (lines_of c.args.text.now) c.args.start c.args.image.now) (c.labels.ensures ∙ c.collect-found.ensures.labels_after))
