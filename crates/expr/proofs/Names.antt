@@ -14,7 +14,6 @@ use lib.ListN.{length, get_or, take, drop, length-take, length-drop, drop_of_len
 use native.Mathlib.Nat.{le_refl}
 use lib.Seq.{length-take-le, take_all}
 use Rattle.std.proofs.lemmas.List.{drop_more}
-
 use Rattle.std.specs.Prelude.{Option, Some, None, Ok, Err}
 use Rattle.std.specs.Option.{option_map, option_map_or}
 use Rattle.expr.specs.declared.Value.{Value}
