@@ -1,7 +1,7 @@
 // The passes over a text: labels, refusals, bytes.
 ghost use Rattle.std.specs.Prelude.{◌≡◌, ◌≤◌, true, [], length};
 ghost use Rattle.text.specs.Pages.{page, write_on};
-ghost use Rattle.expr.specs.Expr.{none, labels_in};
+ghost use Rattle.expr.specs.Expr.{labels_in};
 ghost use Rattle.forms.specs.Form.{lines_of};
 ghost use Rattle.forms.specs.Parts.{first_line, slots};
 ghost use Rattle.asm.specs.Parts.{assembled_with, all_known};
@@ -73,10 +73,9 @@ fn is_outside(start: usize, end: usize) -> bool
 }
 
 impl Source<'_> {
-    // The labels of the text, into a table that has none.
+    // The labels of the text, behind those that the table has.
     fn collect(&self, labels: &mut Table) -> Collected
-        requires { labels.old ≡ none }
-        ensures labels_after { labels.new ≡ labels_of none (address_of self.now.start) (lines_of self.now.text.now) }
+        ensures labels_after { labels.new ≡ labels_of labels.old (address_of self.now.start) (lines_of self.now.text.now) }
         ensures count_value { result.count ≡ length labels.new.keys }
         ensures known_value { result.known ≡ all_known (lines_of self.now.text.now) }
     {
