@@ -79,8 +79,8 @@ found_means (x ∷ l) k = go (eqb x.name k) (found_means l k)
     go false h = rw suc-suc h
 
 -- all that stands from n on
-pub rest_of : {A : Type 0} (l : List A) (n : ℕ) → take (length l - n) (drop n l) ≡ drop n l
-rest_of l n = take_all (length l - n) (drop n l) (rw length-drop (omega arith))
+pub left_from : {A : Type 0} (l : List A) (n : ℕ) → take (length l - n) (drop n l) ≡ drop n l
+left_from l n = take_all (length l - n) (drop n l) (rw length-drop (omega arith))
 
 -- the place of a number among what is looked through, from the item at n on
 module _ {A : Type 0} (f : A → ℕ) (k : ℕ) (l : List A) where

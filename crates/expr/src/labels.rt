@@ -112,37 +112,34 @@ impl Keyed for Entry {
     }
 }
 
-// The place of the first that has that number; the length where there is none. Four at a time: by `iter().position` alone a line of an assembler text takes some
+// The place of the first that has that number; the length where there is none. Four at a time: by `iter().find` alone a line of an assembler text takes some
 // 600 instructions more.
 fn first<T: Keyed>(all: &[T], k: u64) -> usize
     ensures place { result ≡ index_of (map T.key all.now) k }
     ensures within { result ≤ length all.now }
 {
-    let mut i: usize = 0;
     let mut rest = all;
     while let [a, b, c, d, more @ ..] = rest {
         if a.key() == k {
-            return i;
+            return all.len() - rest.len();
         }
         if b.key() == k {
-            return i + 1;
+            return all.len() - rest.len() + 1;
         }
         if c.key() == k {
-            return i + 2;
+            return all.len() - rest.len() + 2;
         }
         if d.key() == k {
-            return i + 3;
+            return all.len() - rest.len() + 3;
         }
-        i += 4;
         rest = more;
     }
-    for x in rest {
+    for (i, x) in rest.iter().enumerate() {
         if x.key() == k {
-            return i;
+            return all.len() - rest.len() + i;
         }
-        i += 1;
     }
-    i
+    all.len()
 }
 
 // Of numbers alone.

@@ -75,4 +75,38 @@ mod tests {
         );
         Ok(())
     }
+
+    // As a pipe that has little room: more than three bytes at once are none.
+    #[derive(Drop)]
+    struct Narrow {
+        line: Cursor<[u8; 64]>,
+    }
+
+    impl Write for Narrow {
+        fn write(&mut self, part: &[u8]) -> io::Result<usize> {
+            if 3 < part.len() {
+                return Err(Error::new(ErrorKind::WouldBlock, "no room"));
+            }
+            self.line.write(part)
+        }
+
+        fn flush(&mut self) -> io::Result<()> {
+            Ok(())
+        }
+    }
+
+    #[test]
+    fn a_part_that_fails_ends_no_line(rt: HostRuntime) -> Result<(), Fail> {
+        let mut narrow = Narrow {
+            line: Cursor::new([0u8; 64]),
+        };
+        let told = write_failure(&mut narrow, b"reading", Error::from_raw_os_error(2));
+        assert!(rt; told.is_err());
+        let n = narrow.line.position() as usize;
+        assert_eq!(rt;
+            text::start_part(narrow.line.get_ref(), n),
+            b": \n".as_slice()
+        );
+        Ok(())
+    }
 }

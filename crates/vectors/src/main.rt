@@ -10,7 +10,7 @@ use reading::read_full;
 use std::io::Read;
 use std::{fmt, io, str};
 
-// A record in hex. Its digits are laid out first and written at once: with `{b:02x}` for each byte a case of no memory takes four times the time.
+// A record in hex. Its digits are laid out first and written at once: with `{b:02x}` for each byte the stored corpus takes 1.4 times the time.
 #[derive(Clone, Copy)]
 struct Hex<'a>(&'a [u8; 160]);
 
