@@ -47,7 +47,7 @@ impl Table {
         ensures { result ≡ is_new self.now.keys k }
     {
         let set = self.labels();
-        k != 0 && expr::find(set, k).is_none() && set.len() < 256
+        k != 0 && expr::place(set, k).is_none() && set.len() < 256
     }
 
     pub fn add(&mut self, k: u64, at: ByteAddr)
@@ -70,7 +70,7 @@ impl Table {
             return Ok(());
         }
         let set = self.labels();
-        if expr::find(set, k).is_some() {
+        if expr::place(set, k).is_some() {
             return Err(Refusal::Twice);
         }
         if set.len() < 256 {

@@ -24,3 +24,10 @@ pub enum Refusal {
 
 // The number of lines and the address after the last byte, or what is refused and the line.
 pub type Assembled = Result<(usize, usize), (Refusal, usize)>;
+
+// How many labels are set, and whether every line is of known form.
+#[derive(Clone, Copy)]
+pub struct Collected {
+    pub count: usize,
+    pub known: bool,
+}

@@ -1,7 +1,7 @@
 // The passes over a text: labels, refusals, bytes.
 ghost use Rattle.std.specs.Prelude.{◌≡◌, ◌≤◌, true, [], length};
 ghost use Rattle.text.specs.Pages.{page, write_on};
-ghost use Rattle.expr.specs.Expr.{none, labels_in};
+ghost use Rattle.expr.specs.Expr.{labels_in};
 ghost use Rattle.forms.specs.Form.{lines_of};
 ghost use Rattle.forms.specs.Parts.{first_line, slots};
 ghost use Rattle.asm.specs.Parts.{assembled_with, all_known};
@@ -10,7 +10,7 @@ ghost use Rattle.asm.specs.Assemble.{address_of, label_for, bytes_for, labels_of
 
 use crate::labels::Table;
 use crate::lines::{Line, room_check};
-use crate::{Assembled, Refusal};
+use crate::{Assembled, Collected, Refusal};
 use expr::Entry;
 use forms::{What, shape_of, table};
 use isa::Encoded;
@@ -34,13 +34,6 @@ fn bytes_for(known: bool, w: What) -> u32
     ensures { result ≡ bytes_for known w }
 {
     if known { shape_of(w).size } else { 0 }
-}
-
-// The labels of a text, and whether all its lines are of known form.
-#[derive(Drop)]
-struct Collected {
-    labels: Table,
-    known: bool,
 }
 
 // A text that is assembled from an address on, and the table of mnemonics.
@@ -80,11 +73,12 @@ fn is_outside(start: usize, end: usize) -> bool
 }
 
 impl Source<'_> {
-    fn collect(&self) -> Collected
-        ensures labels_value { result.labels ≡ labels_of none (address_of self.now.start) (lines_of self.now.text.now) }
+    // The labels of the text, behind those that the table has.
+    fn collect(&self, labels: &mut Table) -> Collected
+        ensures labels_after { labels.new ≡ labels_of labels.old (address_of self.now.start) (lines_of self.now.text.now) }
+        ensures count_value { result.count ≡ length labels.new.keys }
         ensures known_value { result.known ≡ all_known (lines_of self.now.text.now) }
     {
-        let mut labels = Table::new();
         let mut known = true;
         let mut a = address_of(self.start);
         let mut at: usize = 0;
@@ -97,7 +91,8 @@ impl Source<'_> {
             a = word::byte_sum(a, bytes_for(is_known, w));
             at += line.cut.end + 1;
         }
-        Collected { labels, known }
+        let count = labels.labels().len();
+        Collected { count, known }
     }
 
     // Every line, the first refused one first.
@@ -167,6 +162,7 @@ pub fn assemble(text: &[u8], start: usize, image: &mut [u8]) -> Assembled
         table: &table,
         start,
     };
-    let found = source.collect();
-    source.assemble_with(found.known, found.labels.labels(), image)
+    let mut labels = Table::new();
+    let found = source.collect(&mut labels);
+    source.assemble_with(found.known, labels.labels(), image)
 }

@@ -2,9 +2,9 @@
 -- Assumes nothing.
 use Prim.Native.Nat.{ℕ, zero, suc, ◌+◌, ◌*◌, ◌-◌, ◌^◌, ◌<◌, ◌≤◌}
 use Prim.Native.Nat.compare.{suc-suc}
-use mathlib.Core.Path.{◌≡◌, refl, sym, ap, ap₂, ◌∙◌}
+use mathlib.Core.Path.{◌≡◌, refl, sym, ap, ap₂, subst, ◌∙◌}
 use mathlib.Core.Bool.{Bool, true, false, cond, ◌&&◌}
-use mathlib.Core.List.{List, [], ◌∷◌}
+use mathlib.Core.List.{List, [], ◌∷◌, map}
 use native.Mathlib.Omega.{arith}
 use lib.Dec.{eqb, leb, ltb}
 use borrow.Author.Tests.{le-leb, lt-leb, lt-ltb, ltb-true, ltb-false, leb-true, leb-false, eqb-true, ne_eqb, eq-eqb}
@@ -13,6 +13,7 @@ use lib.Pow.{pow-add}
 use lib.ListN.{length, get_or, take, drop, length-take, length-drop, drop_of_length-le}
 use native.Mathlib.Nat.{le_refl}
 use lib.Seq.{length-take-le, take_all}
+use Rattle.std.proofs.lemmas.List.{drop_more}
 use Rattle.std.specs.Prelude.{Option, Some, None, Ok, Err}
 use Rattle.std.specs.Option.{option_map, option_map_or}
 use Rattle.expr.specs.declared.Value.{Value}
@@ -76,6 +77,54 @@ found_means (x ∷ l) k = go (eqb x.name k) (found_means l k)
         ≡ cond (ltb (cond t 0 (suc (index_of (names l) k))) (suc (length (names l)))) (Value.Is (signed_word (get_or (x.place ∷ (labels_in l).places) (cond t 0 (suc (index_of (names l) k))) 0))) Value.Unknown
     go true h = rw (lt-ltb 0 (suc (length (names l))) (omega arith))
     go false h = rw suc-suc h
+
+-- all that stands from n on
+pub left_from : {A : Type 0} (l : List A) (n : ℕ) → take (length l - n) (drop n l) ≡ drop n l
+left_from l n = take_all (length l - n) (drop n l) (rw length-drop (omega arith))
+
+-- the place of a number among what is looked through, from the item at n on
+module _ {A : Type 0} (f : A → ℕ) (k : ℕ) (l : List A) where
+  module _ (n : ℕ) (x d : A) (h : n < length l) (e : x ≡ get_or l n d) where
+    pub place_here : f x ≡ k → index_of (map f (drop n l)) k ≡ 0
+    unfolding index_of
+    place_here p = rw (drop_more l n d h, ← e, eq-eqb _ _ p)
+
+    pub place_on : (f x ≡ k → ⊥) → index_of (map f (drop n l)) k ≡ suc (index_of (map f (drop (n + 1) l)) k)
+    unfolding index_of
+    place_on p = rw (drop_more l n d h, ← e, ne_eqb _ _ p)
+
+  pub place_end : (n : ℕ) → length l ≤ n → index_of (map f (drop n l)) k ≡ 0
+  unfolding index_of
+  place_end n h = rw (drop_of_length-le l h)
+
+-- where the first label stands that has a name, by its place among the names
+in_names : (l : List Entry) (k : ℕ) (d : Entry) → index_of (names l) k < length l → ◌≡◌ {A = Option ℕ} (Some (get_or l (index_of (names l) k) d).place) (found l k)
+unfolding index_of
+in_names [] k d h = absurd (omega arith)
+in_names (x ∷ l) k d h = go (eqb x.name k) (in_names l k d) h
+  where
+    go : (t : Bool) → (index_of (names l) k < length l → ◌≡◌ {A = Option ℕ} (Some (get_or l (index_of (names l) k) d).place) (found l k))
+        → cond t 0 (suc (index_of (names l) k)) < suc (length l)
+        → ◌≡◌ {A = Option ℕ} (Some (get_or (x ∷ l) (cond t 0 (suc (index_of (names l) k))) d).place) (option_map (λ (y : Entry). y.place) (cond t (Some x) (find (λ (y : Entry). eqb y.name k) l)))
+    go true r h = refl
+    go false r h = r (omega arith)
+
+past_names : (l : List Entry) (k : ℕ) → length l ≤ index_of (names l) k → ◌≡◌ {A = Option ℕ} None (found l k)
+unfolding index_of
+past_names [] k h = refl
+past_names (x ∷ l) k h = go (eqb x.name k) (past_names l k) h
+  where
+    go : (t : Bool) → (length l ≤ index_of (names l) k → ◌≡◌ {A = Option ℕ} None (found l k)) → suc (length l) ≤ cond t 0 (suc (index_of (names l) k))
+        → ◌≡◌ {A = Option ℕ} None (option_map (λ (y : Entry). y.place) (cond t (Some x) (find (λ (y : Entry). eqb y.name k) l)))
+    go true r h = absurd (omega arith)
+    go false r h = r (omega arith)
+
+module _ (l : List Entry) (k n : ℕ) (e : n ≡ index_of (names l) k) where
+  pub placed_in : (d : Entry) → n < length l → ◌≡◌ {A = Option ℕ} (Some (get_or l n d).place) (found l k)
+  placed_in d h = subst (λ (m : ℕ). m < length l → ◌≡◌ {A = Option ℕ} (Some (get_or l m d).place) (found l k)) (sym e) (in_names l k d) h
+
+  pub placed_past : length l ≤ n → ◌≡◌ {A = Option ℕ} None (found l k)
+  placed_past h = past_names l k (subst (λ (m : ℕ). length l ≤ m) e h)
 
 -- ---- a letter's or digit's worth
 
@@ -194,6 +243,10 @@ module _ (s : List ℕ) where
     word_none h =
         let k : 12 < run_of s = led_none h in
         rw (first_named s e, length-take-le (run_of s) s (run_most s), lt-leb (run_of s) 12 k)
+
+    -- so a name of at most twelve, with its number, is the leaf that leads
+    pub name_leaf : (v i : ℕ) → i ≡ run_of s → v ≡ key_from 0 (lead s 0) → i ≤ 12 → Ok (meaning t v, i) ≡ leaf_of t s
+    name_leaf v i p q h = word_some v i (sym (led_here v i p q h))
 
   -- and whether all of it is a name
   pub named_whole : (v n : ℕ) → led_by s ≡ Some (v, n) → n ≡ length s → is_letter (get_or s 0 0) ≡ true → v ≡ cond (is_name s) (key_from 0 s) 0

@@ -1,6 +1,6 @@
 // Labels: names, their numbers, and where they stand.
-ghost use Rattle.std.specs.Prelude.{◌≡◌, cond, Some, None, ◌≤◌, length, get_or};
-ghost use Rattle.expr.specs.Expr.{is_letter, is_digit, run_of, rank_of, key_of, is_name, meaning, labels_in, found};
+ghost use Rattle.std.specs.Prelude.{◌≡◌, ℕ, cond, Some, None, ◌≤◌, length, get_or, map};
+ghost use Rattle.expr.specs.Expr.{is_letter, is_digit, run_of, rank_of, key_of, is_name, index_of, meaning, labels_in, found};
 ghost use Rattle.expr.specs.Parts.{named, led_by};
 
 use crate::{Entry, Value};
@@ -88,40 +88,84 @@ pub fn label(s: &[u8]) -> u64
     }
 }
 
-fn find_one(labels: &[Entry], k: u64) -> Option<u32>
-    ensures { result ≡ found labels.now k }
-{
-    labels.iter().find(|l| l.name == k).map(|l| l.place)
+// What is looked through for a name's number: numbers alone, or labels.
+trait Keyed: Copy {
+    ghost key: { Self → ℕ };
+
+    fn key(self) -> u64
+        ensures { result ≡ key self };
 }
 
-// Where the first label stands whose name has that number. Four at a time: by `iter().find` alone a line of an assembler text takes some 600 instructions more.
-pub fn find(labels: &[Entry], k: u64) -> Option<u32>
-    ensures { result ≡ found labels.now k }
+impl Keyed for u64 {
+    ghost key = { λ n. n };
+
+    fn key(self) -> u64 {
+        self
+    }
+}
+
+impl Keyed for Entry {
+    ghost key = { λ l. l.name };
+
+    fn key(self) -> u64 {
+        self.name
+    }
+}
+
+// The place of the first that has that number; the length where there is none. Four at a time: by `iter().find` alone a line of an assembler text takes some
+// 600 instructions more.
+fn first<T: Keyed>(all: &[T], k: u64) -> usize
+    ensures place { result ≡ index_of (map T.key all.now) k }
+    ensures within { result ≤ length all.now }
 {
-    let mut rest = labels;
+    let mut rest = all;
     while let [a, b, c, d, more @ ..] = rest {
-        if a.name == k {
-            return Some(a.place);
+        if a.key() == k {
+            return all.len() - rest.len();
         }
-        if b.name == k {
-            return Some(b.place);
+        if b.key() == k {
+            return all.len() - rest.len() + 1;
         }
-        if c.name == k {
-            return Some(c.place);
+        if c.key() == k {
+            return all.len() - rest.len() + 2;
         }
-        if d.name == k {
-            return Some(d.place);
+        if d.key() == k {
+            return all.len() - rest.len() + 3;
         }
         rest = more;
     }
-    find_one(rest, k)
+    for (i, x) in rest.iter().enumerate() {
+        if x.key() == k {
+            return all.len() - rest.len() + i;
+        }
+    }
+    all.len()
+}
+
+// Of numbers alone.
+pub fn find(keys: &[u64], k: u64) -> usize
+    ensures { (result ≡ index_of keys.now k) × (result ≤ length keys.now) }
+{
+    first(keys, k)
+}
+
+// Where the first label stands whose name has that number.
+pub fn place(labels: &[Entry], k: u64) -> Option<u32>
+    ensures { result ≡ found labels.now k }
+{
+    let i = first(labels, k);
+    if i < labels.len() {
+        Some(labels[i].place)
+    } else {
+        None
+    }
 }
 
 pub fn mean(labels: &[Entry], k: u64) -> Value
     ensures { result ≡ meaning (labels_in labels.now) k }
 {
-    match find(labels, k) {
-        Some(place) => Value::Is(place.cast_signed()),
+    match place(labels, k) {
+        Some(at) => Value::Is(at.cast_signed()),
         None => Value::Unknown,
     }
 }

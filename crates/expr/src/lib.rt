@@ -10,7 +10,7 @@ mod values;
 
 pub use cycle::evaluate;
 pub use form::is_sum;
-pub use labels::{find, label};
+pub use labels::{find, label, place};
 
 // A label that is set, in a table of them: its name's number, and its address.
 #[derive(Clone, Copy)]

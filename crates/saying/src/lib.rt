@@ -21,7 +21,7 @@ fn words(said: &[u8]) -> &[u8]
     }
 }
 
-// A line: what failed, and why.
+// A line: what failed, and why. Each part is tried, whatever became of the one before it.
 fn write_failure<W: Write>(to: &mut W, what: &[u8], e: Error) -> io::Result<()>
     ensures { OnOk result (TellsFailure (W.contents to.old) (W.contents to.new) what.now) }
 {
@@ -29,10 +29,14 @@ fn write_failure<W: Write>(to: &mut W, what: &[u8], e: Error) -> io::Result<()>
     let _ = write!(said, "{e}");
     let n = said.position() as usize;
     let why = words(text::start_part(said.get_ref(), n));
-    to.write_all(what)?;
-    to.write_all(b": ")?;
-    to.write_all(why)?;
-    to.write_all(b"\n")?;
+    let told = to.write_all(what);
+    let parted = to.write_all(b": ");
+    let reasoned = to.write_all(why);
+    let ended = to.write_all(b"\n");
+    told?;
+    parted?;
+    reasoned?;
+    ended?;
     Ok(())
 }
 
@@ -68,6 +72,40 @@ mod tests {
         assert_eq!(rt;
             words(b"a (os error 1) b (os error 2)"),
             b"a (os error 1) b".as_slice()
+        );
+        Ok(())
+    }
+
+    // As a pipe that has little room: more than three bytes at once are none.
+    #[derive(Drop)]
+    struct Narrow {
+        line: Cursor<[u8; 64]>,
+    }
+
+    impl Write for Narrow {
+        fn write(&mut self, part: &[u8]) -> io::Result<usize> {
+            if 3 < part.len() {
+                return Err(Error::new(ErrorKind::WouldBlock, "no room"));
+            }
+            self.line.write(part)
+        }
+
+        fn flush(&mut self) -> io::Result<()> {
+            Ok(())
+        }
+    }
+
+    #[test]
+    fn a_part_that_fails_ends_no_line(rt: HostRuntime) -> Result<(), Fail> {
+        let mut narrow = Narrow {
+            line: Cursor::new([0u8; 64]),
+        };
+        let told = write_failure(&mut narrow, b"reading", Error::from_raw_os_error(2));
+        assert!(rt; told.is_err());
+        let n = narrow.line.position() as usize;
+        assert_eq!(rt;
+            text::start_part(narrow.line.get_ref(), n),
+            b": \n".as_slice()
         );
         Ok(())
     }

@@ -1,6 +1,8 @@
-use mathlib.Core.Path.{refl, sym, ◌∙◌}
+use mathlib.Core.Path.{refl, sym, ap, ◌∙◌}
+use lib.ListN.{length}
+use Rattle.expr.specs.Expr.{Labels}
 use Rattle.forms.proofs.Cuts.{line_next}
-use Rattle.asm.proofs.Laws.{line_fits, labels_on, labels_end, known_on, known_end}
+use Rattle.asm.proofs.Laws.{names_length, line_fits, labels_on, labels_end, known_on, known_end}
 use Rattle.asm.proofs.passes.Source.collect.Goals as goal
 
 pub overflow_add-at : goal.overflow_add-at
@@ -24,4 +26,4 @@ pub returns : goal.returns
 returns c =
     let i = c.loop-at.invariant in
     let x = c.args.self.now.text.now in
-    record { labels_value = sym (labels_end x c.loop-at.at c.loop-at-test.false _ _) ∙ i.labels; known_value = known_end x c.loop-at.at c.loop-at-test.false c.loop-at.known ∙ i.known }
+    record { labels_after = sym (labels_end x c.loop-at.at c.loop-at-test.false _ _) ∙ i.labels; count_value = sym (names_length c.labels-count.result.now) ∙ ap (λ (t : Labels). length t.keys) c.labels-count.ensures; known_value = known_end x c.loop-at.at c.loop-at-test.false c.loop-at.known ∙ i.known }
