@@ -30,10 +30,10 @@ within (x ∷ s) zero f = omega arith
 within (x ∷ s) (suc i) f = let h : i < length s = within s i f in omega arith
 
 -- what the code lends as `&l[i..]`
-abbrev pub rest : List ℕ → ℕ → List ℕ
+abbrev pub rest : {A : Type 0} → List A → ℕ → List A
 rest l i = take (length l - i) (drop i l)
 
-pub rest_of : (l : List ℕ) (i : ℕ) → rest l i ≡ drop i l
+pub rest_of : {A : Type 0} (l : List A) (i : ℕ) → rest l i ≡ drop i l
 rest_of l i = take_all (length l - i) (drop i l) (rw length-drop (omega arith))
 
 module _ (l : List ℕ) (i : ℕ) (h : i < length l) where

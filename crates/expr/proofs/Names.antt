@@ -78,10 +78,6 @@ found_means (x ∷ l) k = go (eqb x.name k) (found_means l k)
     go true h = rw (lt-ltb 0 (suc (length (names l))) (omega arith))
     go false h = rw suc-suc h
 
--- all that stands from n on
-pub left_from : {A : Type 0} (l : List A) (n : ℕ) → take (length l - n) (drop n l) ≡ drop n l
-left_from l n = take_all (length l - n) (drop n l) (rw length-drop (omega arith))
-
 -- the place of a number among what is looked through, from the item at n on
 module _ {A : Type 0} (f : A → ℕ) (k : ℕ) (l : List A) where
   module _ (n : ℕ) (x d : A) (h : n < length l) (e : x ≡ get_or l n d) where
@@ -96,6 +92,46 @@ module _ {A : Type 0} (f : A → ℕ) (k : ℕ) (l : List A) where
   pub place_end : (n : ℕ) → length l ≤ n → index_of (map f (drop n l)) k ≡ 0
   unfolding index_of
   place_end n h = rw (drop_of_length-le l h)
+
+-- the same of the four that lead: each item, and its number r as the code has it
+module _ {A : Type 0} (f : A → ℕ) (k : ℕ) (l : List A) (h : 4 ≤ length l) where
+  on : (n : ℕ) (x d : A) (r : ℕ) → n < length l → x ≡ get_or l n d → r ≡ f x → (r ≡ k → ⊥) → index_of (map f (drop n l)) k ≡ suc (index_of (map f (drop (n + 1) l)) k)
+  on n x d r b e q m = place_on f k l n x d b e (λ p. m (q ∙ p))
+
+  here : (n : ℕ) (x d : A) (r : ℕ) → n < length l → x ≡ get_or l n d → r ≡ f x → r ≡ k → index_of (map f (drop n l)) k ≡ 0
+  here n x d r b e q p = place_here f k l n x d b e (sym q ∙ p)
+
+  module _ (a da : A) (ra : ℕ) (ea : a ≡ get_or l 0 da) (qa : ra ≡ f a) where
+    pub is_first : ra ≡ k → index_of (map f l) k ≡ 0
+    is_first p = here 0 a da ra (omega arith) ea qa p
+
+    module _ (na : ra ≡ k → ⊥) (b db : A) (rb : ℕ) (eb : b ≡ get_or l 1 db) (qb : rb ≡ f b) where
+      pub is_second : rb ≡ k → index_of (map f l) k ≡ 1
+      is_second p =
+          let x = on 0 a da ra (omega arith) ea qa na in
+          let y = here 1 b db rb (omega arith) eb qb p in
+          omega arith
+
+      module _ (nb : rb ≡ k → ⊥) (c dc : A) (rc : ℕ) (ec : c ≡ get_or l 2 dc) (qc : rc ≡ f c) where
+        third : (m : ℕ) → index_of (map f (drop 2 l)) k ≡ m → index_of (map f l) k ≡ m + 2
+        third m z =
+            let x = on 0 a da ra (omega arith) ea qa na in
+            let y = on 1 b db rb (omega arith) eb qb nb in
+            omega arith
+
+        pub is_third : rc ≡ k → index_of (map f l) k ≡ 2
+        is_third p = third 0 (here 2 c dc rc (omega arith) ec qc p)
+
+        module _ (nc : rc ≡ k → ⊥) (e de : A) (re : ℕ) (ee : e ≡ get_or l 3 de) (qe : re ≡ f e) where
+          pub is_fourth : re ≡ k → index_of (map f l) k ≡ 3
+          is_fourth p = third 1 (let x = on 2 c dc rc (omega arith) ec qc nc in let y = here 3 e de re (omega arith) ee qe p in omega arith)
+
+          pub is_beyond : (re ≡ k → ⊥) → index_of (map f l) k ≡ index_of (map f (drop 4 l)) k + 4
+          is_beyond p =
+              let x = on 2 c dc rc (omega arith) ec qc nc in
+              let y = on 3 e de re (omega arith) ee qe p in
+              let z = third (index_of (map f (drop 4 l)) k + 2) (omega arith) in
+              omega arith
 
 -- where the first label stands that has a name, by its place among the names
 in_names : (l : List Entry) (k : ℕ) (d : Entry) → index_of (names l) k < length l → ◌≡◌ {A = Option ℕ} (Some (get_or l (index_of (names l) k) d).place) (found l k)

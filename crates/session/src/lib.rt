@@ -65,8 +65,14 @@ impl Session {
         answer::answer(self.reader, &mut self.memory, out)
     }
 
-    // The text's length is at most that of its room (`fits` of crates/answer/proofs/Theorems.antt), so nothing is cut.
-    pub fn write_answer(&mut self, to: &impl Print) -> io::Result<()> {
+    // The text's length is at most that of its room (`fits` of crates/answer/proofs/Theorems.antt), so nothing is cut. Nobody can say what `to` takes; what becomes of
+    // the session is the same as of `answer`, also where the write fails.
+    pub fn write_answer(&mut self, to: &impl Print) -> io::Result<()>
+        ensures reader_after { self.new.reader ≡ self.old.reader }
+        ensures line_after { self.new.line ≡ self.old.line }
+        ensures bytes_after { self.new.memory.bytes ≡ (answer_by self.old.reader self.old.memory.bytes (bits self.old.memory.marks)).mem }
+        ensures marks_after { bits self.new.memory.marks ≡ (answer_by self.old.reader self.old.memory.bytes (bits self.old.memory.marks)).marks }
+    {
         let mut text = [0u8; 256];
         let n = self.answer(&mut text);
         to.write_all(text::start_part(&text, n))

@@ -1,63 +1,47 @@
 use native.Mathlib.Omega.{arith}
 use mathlib.Core.Path.{sym, ◌∙◌}
-use Prim.Native.Nat.{◌+◌}
 use lib.ListN.{length-drop}
-use Rattle.expr.proofs.Names.{left_from, place_here, place_on, place_end}
+use Rattle.expr.proofs.Laws.{rest_of}
+use Rattle.expr.proofs.Names.{place_here, place_on, place_end, is_first, is_second, is_third, is_fourth, is_beyond}
 use Rattle.expr.proofs.labels.first.Goals as goal
 
 pub returns-then-key-k-clause-place : goal.returns-then-key-k-clause-place
 returns-then-key-k-clause-place g c =
-    let w = c.in-len4-up.len_at_least in
     let p = c.loop-rest.invariant.place in
     let v = c.loop-rest.invariant.within in
-    let a = place_here g.T.Keyed.key c.args.k c.loop-rest.rest.now 0 c.a-item.result _ (omega arith) c.a-item.is (sym c.key.ensures ∙ c.if-key-k.true) in
+    let i = is_first g.T.Keyed.key c.args.k c.loop-rest.rest.now c.in-len4-up.len_at_least _ _ _ c.a-item.is c.key.ensures c.if-key-k.true in
     omega arith
 
 pub returns-then-key-k-2-clause-place : goal.returns-then-key-k-2-clause-place
 returns-then-key-k-2-clause-place g c =
-    let w = c.in-len4-up.len_at_least in
     let p = c.loop-rest.invariant.place in
     let v = c.loop-rest.invariant.within in
-    let a = place_on g.T.Keyed.key c.args.k c.loop-rest.rest.now 0 c.a-item.result _ (omega arith) c.a-item.is (λ e. c.if-key-k.false (c.key.ensures ∙ e)) in
-    let b = place_here g.T.Keyed.key c.args.k c.loop-rest.rest.now 1 c.b-item.result _ (omega arith) c.b-item.is (sym c.key-in-len4-up.ensures ∙ c.if-key-k-2.true) in
+    let i = is_second g.T.Keyed.key c.args.k c.loop-rest.rest.now c.in-len4-up.len_at_least _ _ _ c.a-item.is c.key.ensures c.if-key-k.false _ _ _ c.b-item.is c.key-in-len4-up.ensures c.if-key-k-2.true in
     omega arith
 
 pub returns-then-key-k-3-clause-place : goal.returns-then-key-k-3-clause-place
 returns-then-key-k-3-clause-place g c =
-    let w = c.in-len4-up.len_at_least in
     let p = c.loop-rest.invariant.place in
     let v = c.loop-rest.invariant.within in
-    let a = place_on g.T.Keyed.key c.args.k c.loop-rest.rest.now 0 c.a-item.result _ (omega arith) c.a-item.is (λ e. c.if-key-k.false (c.key.ensures ∙ e)) in
-    let b = place_on g.T.Keyed.key c.args.k c.loop-rest.rest.now 1 c.b-item.result _ (omega arith) c.b-item.is (λ e. c.if-key-k-2.false (c.key-in-len4-up.ensures ∙ e)) in
-    let d = place_here g.T.Keyed.key c.args.k c.loop-rest.rest.now 2 c.c-item.result _ (omega arith) c.c-item.is (sym c.key-in-len4-up-2.ensures ∙ c.if-key-k-3.true) in
+    let i = is_third g.T.Keyed.key c.args.k c.loop-rest.rest.now c.in-len4-up.len_at_least _ _ _ c.a-item.is c.key.ensures c.if-key-k.false _ _ _ c.b-item.is c.key-in-len4-up.ensures c.if-key-k-2.false _ _ _ c.c-item.is c.key-in-len4-up-2.ensures c.if-key-k-3.true in
     omega arith
 
 pub returns-then-key-k-4-clause-place : goal.returns-then-key-k-4-clause-place
 returns-then-key-k-4-clause-place g c =
-    let w = c.in-len4-up.len_at_least in
     let p = c.loop-rest.invariant.place in
     let v = c.loop-rest.invariant.within in
-    let a = place_on g.T.Keyed.key c.args.k c.loop-rest.rest.now 0 c.a-item.result _ (omega arith) c.a-item.is (λ e. c.if-key-k.false (c.key.ensures ∙ e)) in
-    let b = place_on g.T.Keyed.key c.args.k c.loop-rest.rest.now 1 c.b-item.result _ (omega arith) c.b-item.is (λ e. c.if-key-k-2.false (c.key-in-len4-up.ensures ∙ e)) in
-    let d = place_on g.T.Keyed.key c.args.k c.loop-rest.rest.now 2 c.c-item.result _ (omega arith) c.c-item.is (λ e. c.if-key-k-3.false (c.key-in-len4-up-2.ensures ∙ e)) in
-    let f = place_here g.T.Keyed.key c.args.k c.loop-rest.rest.now 3 c.d-item.result _ (omega arith) c.d-item.is (sym c.key-in-len4-up-3.ensures ∙ c.if-key-k-4.true) in
+    let i = is_fourth g.T.Keyed.key c.args.k c.loop-rest.rest.now c.in-len4-up.len_at_least _ _ _ c.a-item.is c.key.ensures c.if-key-k.false _ _ _ c.b-item.is c.key-in-len4-up.ensures c.if-key-k-2.false _ _ _ c.c-item.is c.key-in-len4-up-2.ensures c.if-key-k-3.false _ _ _ c.d-item.is c.key-in-len4-up-3.ensures c.if-key-k-4.true in
     omega arith
 
 pub loop-rest-preserved : goal.loop-rest-preserved
 loop-rest-preserved g c =
-    let w = c.in-len4-up.len_at_least in
     let p = c.loop-rest.invariant.place in
     let v = c.loop-rest.invariant.within in
-    let a = place_on g.T.Keyed.key c.args.k c.loop-rest.rest.now 0 c.a-item.result _ (omega arith) c.a-item.is (λ e. c.if-key-k.false (c.key.ensures ∙ e)) in
-    let b = place_on g.T.Keyed.key c.args.k c.loop-rest.rest.now 1 c.b-item.result _ (omega arith) c.b-item.is (λ e. c.if-key-k-2.false (c.key-in-len4-up.ensures ∙ e)) in
-    let d = place_on g.T.Keyed.key c.args.k c.loop-rest.rest.now 2 c.c-item.result _ (omega arith) c.c-item.is (λ e. c.if-key-k-3.false (c.key-in-len4-up-2.ensures ∙ e)) in
-    let f = place_on g.T.Keyed.key c.args.k c.loop-rest.rest.now 3 c.d-item.result _ (omega arith) c.d-item.is (λ e. c.if-key-k-4.false (c.key-in-len4-up-3.ensures ∙ e)) in
-    let r = left_from c.loop-rest.rest.now 4 in
+    let w = c.in-len4-up.len_at_least in
+    let i = is_beyond g.T.Keyed.key c.args.k c.loop-rest.rest.now c.in-len4-up.len_at_least _ _ _ c.a-item.is c.key.ensures c.if-key-k.false _ _ _ c.b-item.is c.key-in-len4-up.ensures c.if-key-k-2.false _ _ _ c.c-item.is c.key-in-len4-up-2.ensures c.if-key-k-3.false _ _ _ c.d-item.is c.key-in-len4-up-3.ensures c.if-key-k-4.false in
+    let r = rest_of c.loop-rest.rest.now 4 in
     let n = length-drop 4 c.loop-rest.rest.now in
-    record {
-      place = rw (r, n) (omega arith);
-      within = rw (r, n) (omega arith);
-    }
+    record { place = rw (r, n) (omega arith); within = rw (r, n) (omega arith) }
 
 pub returns-then-key-k-5-clause-place : goal.returns-then-key-k-5-clause-place
 returns-then-key-k-5-clause-place g c =
